@@ -1,0 +1,5 @@
+pub mod Arms
+pub mod Counts
+pub mod Entries
+pub mod Everywhere
+pub mod Once

@@ -1,0 +1,5 @@
+pub mod Choice
+pub mod Numbers
+pub mod Reading
+pub mod Sheet
+pub mod Table

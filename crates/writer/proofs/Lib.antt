@@ -1,0 +1,5 @@
+pub mod Back
+pub mod Example
+pub mod Families
+pub mod Once
+pub mod RoundTrips

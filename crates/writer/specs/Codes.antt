@@ -1,0 +1,39 @@
+-- How an operand goes into a code. Which code is whose stands in isa's sheet and nowhere else in the definitions.
+-- Assumes nothing.
+use Prim.Native.Nat.{ℕ, _+_, _*_}
+use Rattle.isa.specs.Choice.{pick, within}
+use Rattle.isa.specs.declared.Refusal.the-variants.{OperandTooLarge}
+use Rattle.isa.specs.declared.Cell.{Cell}
+use Rattle.isa.specs.declared.Cell.the-variants.{Register, Indirect}
+use Rattle.isa.specs.declared.Source.{Source}
+use Rattle.isa.specs.declared.Source.the-variants.{Memory, Immediate}
+use Rattle.isa.specs.declared.Latch.{Latch}
+use Rattle.isa.specs.declared.Latch.the-variants.{Bus, Port}
+use Rattle.writer.specs.declared.Written.{Written}
+use Rattle.writer.specs.declared.Written.the-variants.{One, Two, Unwritten}
+
+-- In bits 0-2, a number from low to high.
+abbrev pub codedLow : ℕ → ℕ → ℕ → ℕ → Written
+codedLow base low high k = pick (within low high k) (One (base + k)) (Unwritten OperandTooLarge)
+
+-- In bits 5-7.
+abbrev pub codedHigh : ℕ → ℕ → Written
+codedHigh base k = pick (within 0 7 k) (One (base + 32 * k)) (Unwritten OperandTooLarge)
+
+-- In a second byte.
+abbrev pub withSecond : Written → ℕ → Written
+withSecond (One b) d = Two b d
+withSecond (Two b e) d = Two b e
+withSecond (Unwritten r) d = Unwritten r
+
+abbrev pub cellCode : ℕ → Cell → Written
+cellCode base (Register r) = codedLow (base + 8) 0 7 r
+cellCode base (Indirect r) = codedLow base 0 1 r
+
+abbrev pub sourceCode : ℕ → ℕ → Source → Written
+sourceCode base immediate (Memory c) = cellCode base c
+sourceCode base immediate (Immediate d) = Two immediate d
+
+abbrev pub latchCode : ℕ → ℕ → Latch → Written
+latchCode bus base Bus = One bus
+latchCode bus base (Port p) = codedLow base 1 2 p
