@@ -36,12 +36,13 @@ decodedAt program a b =
     (pick (lacks program (nextPc a)) (refused 5)
     (given (sized (instructionOf b (byteAt program (nextPc a))) 2))))
 
+-- The instruction at an address: "5 for the first byte, 4, 5 for the second".
+unfoldable pub instructionAt : List ℕ → ℕ → Answer Sized
+instructionAt program a = pick (lacks program a) (refused 5) (decodedAt program a (byteAt program a))
+
 -- "The reader takes a program as the listing does and an address, order 1, 5, 4, 5."
 unfoldable pub readOf : List ℕ → ℕ → Answer Sized
-readOf program a =
-    pick (ltb 4096 (length program)) (refused 1)
-    (pick (lacks program a) (refused 5)
-    (decodedAt program a (byteAt program a)))
+readOf program a = pick (ltb 4096 (length program)) (refused 1) (instructionAt program a)
 
 -- The number and the values of each of the reader's answers.
 abbrev pub readAs : Decoded → Answer Sized

@@ -6,7 +6,7 @@ use Prim.Native.Nat.{ℕ}
 use Rattle.isa.specs.Choice.{pick}
 use Rattle.isa.specs.Numbers.{given, refused}
 use Rattle.isa.specs.Sheet.{kindOf, entryOf}
-use Rattle.isa.specs.Reading.{sized, readOf, decodedAt}
+use Rattle.isa.specs.Reading.{sized, readOf, instructionAt, decodedAt}
 use Rattle.isa.specs.declared.Source.the-variants.{Immediate}
 use Rattle.isa.specs.declared.Instruction.the-variants.{MovA, Jmp}
 use Rattle.writer.specs.Writing.{Writes}
@@ -15,19 +15,19 @@ abbrev program : List ℕ
 program = 0x55 ∷ 0x23 ∷ 0x0F ∷ 0x24 ∷ 0x00 ∷ 0x66 ∷ []
 
 read-1 : readOf program 1 ≡ given (sized (MovA (Immediate 0x0F)) 2)
-unfolding readOf decodedAt entryOf kindOf pick
+unfolding readOf instructionAt decodedAt entryOf kindOf pick
 read-1 = refl
 
 read-3 : readOf program 3 ≡ given (sized (Jmp 0x100) 2)
-unfolding readOf decodedAt entryOf kindOf pick
+unfolding readOf instructionAt decodedAt entryOf kindOf pick
 read-3 = refl
 
 read-5 : readOf program 5 ≡ refused 4
-unfolding readOf decodedAt entryOf kindOf pick
+unfolding readOf instructionAt decodedAt entryOf kindOf pick
 read-5 = refl
 
 write-100 : Writes (Jmp 0x100) (given (0x24 ∷ 0x00 ∷ []))
-unfolding readOf decodedAt entryOf kindOf pick
+unfolding readOf instructionAt decodedAt entryOf kindOf pick
 write-100 = refl
 
 write-800 : Writes (Jmp 0x800) (refused 23)

@@ -11,7 +11,7 @@ use borrow.Author.Tests.{leb-true, leb-false, le-leb, lt-leb}
 use Rattle.isa.specs.Choice.{pick, within, listed}
 use Rattle.isa.specs.Numbers.{given, refused}
 use Rattle.isa.specs.Sheet.{kindOf, entryOf, instructionOf}
-use Rattle.isa.specs.Reading.{Sized, sized, readOf, decodedAt}
+use Rattle.isa.specs.Reading.{Sized, sized, readOf, instructionAt, decodedAt}
 use Rattle.isa.specs.declared.Cell.{Cell}
 use Rattle.isa.specs.declared.Cell.the-variants.{Register, Indirect}
 use Rattle.isa.specs.declared.Source.{Source}
@@ -33,14 +33,14 @@ abbrev pub known : ℕ → ℕ → Sized
 known b d = sized (instructionOf b d) (entryOf b .bytes)
 
 pub reads-one : (b : ℕ) (i : Instruction) → known b 0 ≡ sized i 1 → readOf (b ∷ []) 0 ≡ given (sized i 1)
-unfolding readOf decodedAt pick
+unfolding readOf instructionAt decodedAt pick
 reads-one b i k =
     let size : entryOf b .bytes ≡ 1 = cc in
     let same : instructionOf b 0 ≡ i = cc in
     simp (size, same)
 
 pub reads-two : (b d : ℕ) (i : Instruction) → known b d ≡ sized i 2 → readOf (b ∷ d ∷ []) 0 ≡ given (sized i 2)
-unfolding readOf decodedAt pick
+unfolding readOf instructionAt decodedAt pick
 reads-two b d i k =
     let size : entryOf b .bytes ≡ 2 = cc in
     let same : instructionOf b d ≡ i = cc in

@@ -11,7 +11,7 @@ use borrow.Author.Tests.{le-ltb}
 use Rattle.isa.specs.Choice.{pick}
 use Rattle.isa.specs.Numbers.{Answer, given, refused}
 use Rattle.isa.specs.Sheet.{entryOf, instructionOf}
-use Rattle.isa.specs.Reading.{Sized, sized, readOf, decodedAt, nextPc, lacks, byteAt}
+use Rattle.isa.specs.Reading.{Sized, sized, readOf, instructionAt, decodedAt, nextPc, lacks, byteAt}
 use Rattle.isa.specs.declared.Instruction.{Instruction}
 use Rattle.writer.specs.Standing.{Bytes, BytesIn, StandsAt, Stands}
 use Rattle.writer.specs.Writing.{Writes, holds}
@@ -27,7 +27,7 @@ data Found (program : List ℕ) (a : ℕ) (i : Instruction) : ℕ → Type 0 whe
       → lacks program (nextPc a) ≡ false → instructionOf (byteAt program a) (byteAt program (nextPc a)) ≡ i → Found program a i 2
 
 found : (program : List ℕ) (a : ℕ) (i : Instruction) (n : ℕ) → readOf program a ≡ given (sized i n) → Found program a i n
-unfolding readOf decodedAt pick
+unfolding readOf instructionAt decodedAt pick
 found program a i n r =
     go (ltb 4096 (length program)) (lacks program a) (eqb size 0) (eqb size 1) (lacks program (nextPc a)) refl refl refl refl r
   where
@@ -81,7 +81,7 @@ whole i bytes w = go bytes (length bytes) refl (found bytes 0 i (length bytes) w
 pub write-read :
     (program : List ℕ) (a : ℕ) (i : Instruction) (bytes : List ℕ) → length program ≤ 4096 → Writes i (given bytes)
     → StandsAt program a bytes → readOf program a ≡ given (sized i (length bytes))
-unfolding readOf decodedAt pick
+unfolding readOf instructionAt decodedAt pick
 write-read program a i bytes short w s = go bytes (whole i bytes w) s
   where
     go : (v : List ℕ) → Whole i v → StandsAt program a v → readOf program a ≡ given (sized i (length v))

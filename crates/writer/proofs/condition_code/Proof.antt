@@ -4,7 +4,7 @@ use borrow.Author.Needs.{needs}
 use mathlib.Core.Path.{refl}
 use Rattle.isa.specs.Choice.{pick}
 use Rattle.isa.specs.Sheet.{kindOf, entryOf}
-use Rattle.isa.specs.Reading.{readOf, decodedAt}
+use Rattle.isa.specs.Reading.{readOf, instructionAt, decodedAt}
 use Rattle.isa.specs.declared.Condition.the-variants.{Jb}
 use Rattle.isa.specs.declared.Instruction.the-variants.{Branch}
 use Rattle.writer.proofs.Families.{high-writes}
@@ -12,7 +12,7 @@ use Rattle.writer.proofs.condition_code.Statement.{statement}
 use Rattle.writer.proofs.condition_code.Tie as tie
 
 pub condition-code-spec : {M : Type 1} → statement M
-unfolding readOf decodedAt entryOf kindOf pick
+unfolding readOf instructionAt decodedAt entryOf kindOf pick
 condition-code-spec =
     tie.close
     (tie.spec

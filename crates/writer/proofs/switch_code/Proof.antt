@@ -3,12 +3,12 @@
 use borrow.Author.Needs.{needs}
 use Rattle.isa.specs.Choice.{pick}
 use Rattle.isa.specs.Sheet.{kindOf, entryOf}
-use Rattle.isa.specs.Reading.{readOf, decodedAt}
+use Rattle.isa.specs.Reading.{readOf, instructionAt, decodedAt}
 use Rattle.writer.proofs.switch_code.Statement.{statement}
 use Rattle.writer.proofs.switch_code.Tie as tie
 
 pub switch-code-spec : {M : Type 1} → statement M
-unfolding readOf decodedAt entryOf kindOf pick
+unfolding readOf instructionAt decodedAt entryOf kindOf pick
 switch-code-spec =
     tie.close
     (tie.spec

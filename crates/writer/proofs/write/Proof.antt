@@ -4,14 +4,14 @@ use borrow.Author.Needs.{needs}
 use mathlib.Core.Path.{refl}
 use Rattle.isa.specs.Choice.{pick}
 use Rattle.isa.specs.Sheet.{kindOf, entryOf}
-use Rattle.isa.specs.Reading.{readOf, decodedAt}
+use Rattle.isa.specs.Reading.{readOf, instructionAt, decodedAt}
 use Rattle.isa.specs.declared.Instruction.the-variants.{Djnz, Branch, Jmp, MovA, Mov, MovxRead, MovxWrite, Xch, Xchd, Logic, In, Outl, Dec, Inc, Call}
 use Rattle.writer.proofs.Families.{low-writes, low-writes-two, far-writes, cell-writes, mov-data-writes, source-writes, latch-writes, second-writes}
 use Rattle.writer.proofs.write.Statement.{statement}
 use Rattle.writer.proofs.write.Tie as tie
 
 pub write-spec : {M : Type 1} → statement M
-unfolding readOf decodedAt entryOf kindOf pick
+unfolding readOf instructionAt decodedAt entryOf kindOf pick
 write-spec =
     tie.close
     (tie.spec

@@ -1,0 +1,14 @@
+-- `chip::acting::call` meets its contract.
+-- Assumes nothing.
+use Rattle.isa.specs.Choice.{pick}
+use Rattle.chip.specs.Step.{called, planBy}
+use borrow.Author.Needs.{needs}
+use Rattle.chip.proofs.acting.call.Statement.{statement}
+use Rattle.chip.proofs.acting.call.Tie as tie
+
+pub call-spec : {M : Type 1} → statement M
+unfolding called pick planBy
+call-spec = tie.close (tie.spec
+    (λ c κs. search needs)
+    (λ c κs. search needs)
+    (λ c. rw (c .push .ensures, c .before .with-interrupts .ensures)))

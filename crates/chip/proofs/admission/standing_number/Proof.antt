@@ -1,0 +1,22 @@
+-- `chip::admission::standing_number` meets its contract.
+-- Assumes nothing.
+use Rattle.chip.specs.Admission.{standing}
+use Rattle.chip.specs.Step.{planBy}
+use Rattle.isa.specs.Choice.{pick}
+use borrow.Author.Needs.{needs}
+use Rattle.chip.proofs.admission.standing_number.Statement.{statement}
+use Rattle.chip.proofs.admission.standing_number.Tie as tie
+
+pub standing-number-spec : {M : Type 1} → statement M
+unfolding pick planBy standing
+standing-number-spec =
+    tie.close
+    (tie.spec
+    (λ c κs. search needs)
+    (λ c. rw (c .number .ensures, c .before .if1 .taken))
+    (λ c κs. search needs)
+    (λ c. rw (c .number2 .ensures, c .before .before .if1 .left, c .before .if2 .taken))
+    (λ c κs. search needs)
+    (λ c κs. search needs)
+    (λ c. rw (c .number3 .ensures, c .before .before .before .before .if1 .left, c .before .before .before .if2 .left, ← (c .before .before .is-permitted .ensures), c .before .if3 .taken))
+    (λ c. rw (c .before .before .before .if1 .left, c .before .before .if2 .left, ← (c .before .is-permitted .ensures), c .if3 .left)))

@@ -1,0 +1,15 @@
+-- `chip::settle` meets its contract.
+-- Assumes nothing.
+use Rattle.chip.specs.Step.{planBy, settled}
+use Rattle.isa.specs.Choice.{pick}
+use borrow.Author.Needs.{needs}
+use Rattle.chip.proofs.settle.Statement.{statement}
+use Rattle.chip.proofs.settle.Tie as tie
+
+pub settle-spec : {M : Type 1} → statement M
+unfolding pick planBy settled
+settle-spec = tie.close (tie.spec
+    (λ c κs. search needs)
+    (λ c κs. search needs)
+    (λ c κs. search needs)
+    (λ c. rw (c .with-count .ensures, c .before .tick .ensures, c .before .before .count .ensures)))

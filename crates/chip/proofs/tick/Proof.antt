@@ -1,0 +1,18 @@
+-- `chip::tick` meets its contract.
+-- Assumes nothing.
+use Rattle.chip.specs.Step.{planBy, ticked}
+use Rattle.isa.specs.Choice.{pick}
+use borrow.Author.Needs.{needs}
+use borrow.Author.Tests.{eq-eqb, ne-eqb}
+use Rattle.chip.proofs.tick.Statement.{statement}
+use Rattle.chip.proofs.tick.Tie as tie
+
+pub tick-spec : {M : Type 1} → statement M
+unfolding pick planBy ticked
+tick-spec =
+    tie.close (tie.spec
+    (λ c. rw (c .if1 .taken))
+    (λ c κs. search needs)
+    (λ c κs. search needs)
+    (λ c. rw (c .count-cycle2 .ensures, c .before .before .before .if1 .left, ← (c .before .before .count-cycle .ensures), eq-eqb _ _ (c .before .if2 .taken)))
+    (λ c. rw (c .before .before .if1 .left, ← (c .before .count-cycle .ensures), ne-eqb _ _ (c .if2 .left))))

@@ -1,0 +1,33 @@
+-- What is looked at before a step does anything: "Order: 1, 2, 3, 6".
+-- Assumes nothing.
+use Prim.Native.Nat.{ℕ, _^_}
+use mathlib.Core.Bool.{Bool, not, _&&_, _||_}
+use lib.Dec.{ltb, eqb}
+use Rattle.isa.specs.Choice.{pick}
+use Rattle.machine.specs.State.{permitted}
+use Rattle.machine.specs.declared.State.{State}
+
+-- "Program: exactly 1,024, 2,048 or 4,096 bytes."
+abbrev pub programAllowed : ℕ → Bool
+programAllowed n = eqb n 1024 || eqb n 2048 || eqb n 4096
+
+-- "RAM: exactly 64, 128 or 256 bytes, any pairing with the program."
+abbrev pub ramAllowed : ℕ → Bool
+ramAllowed n = eqb n 64 || eqb n 128 || eqb n 256
+
+-- "Bits 28-31 are 0."
+abbrev pub sampleAllowed : ℕ → Bool
+sampleAllowed sample = ltb sample (2 ^ 28)
+
+-- The number that the program's and the RAM's lengths and the state give, 0 if none.
+unfoldable pub standing : ℕ → ℕ → State → ℕ
+standing program ram s =
+    pick (not (programAllowed program)) 1
+    (pick (not (ramAllowed ram)) 2
+    (pick (not (permitted s)) 3 0))
+
+-- The same, and the two samples that the step is given.
+unfoldable pub admission : ℕ → ℕ → State → ℕ → ℕ → ℕ
+admission program ram s first second =
+    pick (not (eqb (standing program ram s) 0)) (standing program ram s)
+    (pick (not (sampleAllowed first && sampleAllowed second)) 6 0)

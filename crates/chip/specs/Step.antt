@@ -1,0 +1,163 @@
+-- Document 01, "One step".
+-- Assumes nothing.
+use Prim.Native.Nat.{ℕ, _+_, _*_, _/_, _%_}
+use mathlib.Core.Bool.{Bool, true, false, not, _&&_}
+use mathlib.Core.List.{List}
+use mathlib.Core.Path.{_≡_}
+use lib.Dec.{eqb}
+use lib.ListN.{length, set}
+use Rattle.isa.specs.Choice.{pick}
+use Rattle.isa.specs.Numbers.{Answer, given, refused}
+use Rattle.isa.specs.Reading.{Sized, sized, nextPc, byteAt, instructionAt}
+use Rattle.isa.specs.Sheet.{entryOf, makeOf}
+use Rattle.machine.specs.Counting.{counted}
+use Rattle.machine.specs.State.{countOf, withPc, withCount, withInterrupts}
+use Rattle.machine.specs.declared.Count.{Count}
+use Rattle.machine.specs.declared.Counting.{Counting}
+use Rattle.machine.specs.declared.Counting.the-variants.{Stopped}
+use Rattle.machine.specs.declared.Interrupts.{Interrupts}
+use Rattle.machine.specs.declared.Ports.{Ports}
+use Rattle.machine.specs.declared.State.{State}
+use Rattle.effects.specs.Execute.{executed}
+use Rattle.effects.specs.Moves.{quiet}
+use Rattle.effects.specs.Pins.{high, low}
+use Rattle.effects.specs.Stack.{pushed}
+use Rattle.effects.specs.declared.Effect.{Effect}
+use Rattle.effects.specs.declared.Event.the-variants.{Quiet}
+use Rattle.effects.specs.declared.Write.{Write}
+use Rattle.effects.specs.declared.Write.the-variants.{Nothing, Byte, Pair}
+use Rattle.chip.specs.Admission.{admission}
+use Rattle.chip.specs.declared.Course.{Course}
+use Rattle.chip.specs.declared.Fetch.{Fetch}
+use Rattle.chip.specs.declared.Outcome.{Outcome}
+use Rattle.chip.specs.declared.Plan.{Plan}
+
+-- What a step does before its cycles are counted: an effect and its cycles, or a refusal, which changes nothing.
+unfoldable pub declined : ℕ → State → Course
+declined number s = record { number = number; state = s; event = Quiet; write = Nothing; cycles = 0; fresh = false }
+
+unfoldable pub accepted : Effect → ℕ → Course
+accepted e cycles =
+    record { number = 0; state = e .state; event = e .event; write = e .write; cycles = cycles; fresh = e .fresh }
+
+-- 1. "RESET low in the first sample: PC, SP, BS, DBF, F0, F1, TF, stored request, both enables, in-service and T0 clock go to 0; P1 and P2
+-- latches to FF; BUS not driven; counter stands still. All else but the last T1 level stays."
+unfoldable pub resetState : State → State
+resetState s =
+    record {
+      a = s .a;
+      pc = 0;
+      psw = s .psw / 64 * 64 + s .psw / 8 % 2 * 8;
+      counting = Stopped;
+      t = s .t;
+      divider = s .divider;
+      tf = false;
+      request = false;
+      t1 = s .t1;
+      f1 = false;
+      dbf = false;
+      clock = false;
+      interrupts = record { external = false; timer = false; service = false };
+      ports = record { p1 = 0xFF; p2 = 0xFF; bus = s .ports .bus; driven = false };
+    }
+
+-- 2. "if none is in service: external interrupt enabled and INT low in the first sample calls location 3; else timer interrupt enabled
+-- and a request stored clears the request and calls 7."
+abbrev pub externalCalls : State → ℕ → Bool
+externalCalls s first = not (s .interrupts .service) && s .interrupts .external && low 24 first
+
+abbrev pub timerCalls : State → Bool
+timerCalls s = not (s .interrupts .service) && s .interrupts .timer && s .request
+
+-- "The call pushes like CALL, sets in-service, leaves DBF, takes 2 cycles."
+unfoldable pub called : State → ℕ → Effect
+called s vector =
+    pushed
+    (withInterrupts s (record { external = s .interrupts .external; timer = s .interrupts .timer; service = true }))
+    vector
+
+unfoldable pub withoutRequest : State → State
+withoutRequest s = withCount s (record { t = s .t; divider = s .divider; tf = s .tf; request = false; t1 = s .t1 })
+
+-- The PC after an instruction of n bytes, one or two.
+abbrev pub pcAfter : ℕ → ℕ → ℕ
+pcAfter n pc = pick (eqb n 1) (nextPc pc) (nextPc (nextPc pc))
+
+-- An effect with the cycles of its instruction; a table byte may be past the end.
+unfoldable pub done : Effect → ℕ → State → Course
+done e cycles s = pick (eqb (e .number) 0) (accepted e cycles) (declined (e .number) s)
+
+-- 3. "Otherwise one instruction": the one that stands at PC.
+abbrev pub carriedBy : Answer Sized → List ℕ → List ℕ → State → ℕ → ℕ → Course
+carriedBy (refused n) program ram s first second = declined n s
+carriedBy (given (sized i n)) program ram s first second =
+    done (executed i program ram (withPc s (pcAfter n (s .pc))) (s .pc) first second) (entryOf (byteAt program (s .pc)) .cycles) s
+
+unfoldable pub carried : List ℕ → List ℕ → State → ℕ → ℕ → Course
+carried program ram s first second = carriedBy (instructionAt program (s .pc)) program ram s first second
+
+-- "Order: 1, 2, 3, 6; then reset; then an interrupt call (neither fetches)"; "External goes first".
+unfoldable pub course : List ℕ → List ℕ → State → ℕ → ℕ → Course
+course program ram s first second =
+    pick (not (eqb (admission (length program) (length ram) s first second) 0))
+    (declined (admission (length program) (length ram) s first second) s)
+    (pick (low 27 first) (accepted (quiet (resetState s)) 1)
+    (pick (externalCalls s first) (accepted (called s 3) 2)
+    (pick (timerCalls s) (accepted (called (withoutRequest s) 7) 2)
+    (carried program ram s first second))))
+
+-- 4. "Then the cycles of the step, an interrupt call's two as well, are counted, one at a time, after its effects. The cycle of STRT T or
+-- STRT CNT itself isn't counted." "T1 is remembered every cycle, reset and STRT CNT too."
+abbrev pub remembered : Count → Bool → Count
+remembered c t1 = record { t = c .t; divider = c .divider; tf = c .tf; request = c .request; t1 = t1 }
+
+unfoldable pub ticked : Counting → Count → ℕ → Bool → Bool → ℕ → ℕ → Count
+ticked counting c cycles fresh enabled first second =
+    pick fresh (remembered c (high 26 first))
+    (pick (eqb cycles 2)
+    (counted counting (counted counting c (high 26 first) enabled) (high 26 second) enabled)
+    (counted counting c (high 26 first) enabled))
+
+unfoldable pub settled : State → ℕ → Bool → ℕ → ℕ → State
+settled s cycles fresh first second =
+    withCount s (ticked (s .counting) (countOf s) cycles fresh (s .interrupts .timer) first second)
+
+-- The whole step, and what it writes to RAM. "A refused step returns the number, the state it got, no event and 0 cycles; RAM is
+-- unchanged."
+unfoldable pub planBy : Course → State → ℕ → ℕ → Plan
+planBy c s first second =
+    pick (eqb (c .number) 0)
+    (record {
+      number = 0;
+      state = settled (c .state) (c .cycles) (c .fresh) first second;
+      event = c .event;
+      write = c .write;
+      cycles = c .cycles;
+    })
+    (record { number = c .number; state = s; event = Quiet; write = Nothing; cycles = 0 })
+
+abbrev pub planOf : List ℕ → List ℕ → State → ℕ → ℕ → Plan
+planOf program ram s first second = planBy (course program ram s first second) s first second
+
+abbrev pub outcomeOf : Plan → Outcome
+outcomeOf p = record { number = p .number; state = p .state; event = p .event; cycles = p .cycles }
+
+-- RAM after a write.
+unfoldable pub written : List ℕ → Write → List ℕ
+written ram Nothing = ram
+written ram (Byte at v) = set ram at v
+written ram (Pair at low high) = set (set ram at low) (at + 1) high
+
+-- What a step answers, and the RAM that it leaves.
+abbrev pub stepOf : List ℕ → List ℕ → State → ℕ → ℕ → Outcome
+stepOf program ram s first second = outcomeOf (planOf program ram s first second)
+
+abbrev pub ramAfter : List ℕ → List ℕ → State → ℕ → ℕ → List ℕ
+ramAfter program ram s first second = written ram (planOf program ram s first second .write)
+
+-- What is fetched at an address is what is read there.
+pub record Fetched (program : List ℕ) (pc : ℕ) (f : Fetch) : Type 0 where
+  pub none : (f .number ≡ 0 → ⊥) → instructionAt program pc ≡ refused (f .number)
+  pub one : f .number ≡ 0 → instructionAt program pc ≡ given (sized (makeOf (f .kind) (f .code) (f .second)) (f .bytes))
+  pub next : f .number ≡ 0 → f .next ≡ pcAfter (f .bytes) pc
+  pub cycles : f .number ≡ 0 → f .cycles ≡ entryOf (byteAt program pc) .cycles

@@ -1,0 +1,169 @@
+// The chip: one step, and a run over many.
+use effects::Event;
+use effects::Write;
+use machine::Count;
+use machine::Counting;
+use machine::State;
+use machine::cycle::count_cycle;
+ghost use mathlib.Core.Path.{_≡_};
+ghost use Rattle.isa.specs.Table.{packedRows};
+ghost use Rattle.chip.specs.Run.{Standing, Ended, runOver, runOf};
+ghost use Rattle.chip.specs.Step.{planBy, planOf, stepOf, ramAfter, settled, ticked, written};
+
+mod admission; // 1, 2, 3, 6
+mod acting; // reset, interrupt calls, one instruction
+mod fetching; // the bytes at PC
+mod storing; // what a step writes
+
+// What is fetched at PC. `number` is 0, or the refusal's number and all else is 0.
+pub struct Fetch {
+    pub number: u8,
+    pub kind: u8,
+    pub code: u8,
+    pub second: u8,
+    pub bytes: u8,
+    pub next: u16,
+    pub cycles: u8,
+}
+
+// What a step does before its cycles are counted.
+pub struct Course {
+    pub number: u8,
+    pub state: State,
+    pub event: Event,
+    pub write: Write,
+    pub cycles: u8,
+    pub fresh: bool,
+}
+
+// A whole step, and what it is to write to RAM.
+pub struct Plan {
+    pub number: u8,
+    pub state: State,
+    pub event: Event,
+    pub write: Write,
+    pub cycles: u8,
+}
+
+// What a step answers: the refusal's number or 0, the state, the event and the machine cycles spent.
+pub struct Outcome {
+    pub number: u8,
+    pub state: State,
+    pub event: Event,
+    pub cycles: u8,
+}
+
+// What a run answers: the number that ended it, 0 if samples ran out, the state, the samples used, the machine cycles spent, and the
+// event of its last step.
+pub struct Ran {
+    pub number: u8,
+    pub state: State,
+    pub used: usize,
+    pub cycles: u64,
+    pub event: Event,
+}
+
+// The counter after the cycles of a step, one or two.
+fn tick(
+    counting: Counting,
+    c: Count,
+    cycles: u8,
+    fresh: bool,
+    enabled: bool,
+    first: u32,
+    second: u32,
+) -> Count
+    ensures { λ r. ⌜ r ≡ ticked counting c cycles fresh enabled first second ⌝ }
+{
+    let t1 = first / 0x400_0000 % 2 == 1;
+    if fresh {
+        return Count {
+            t: c.t,
+            divider: c.divider,
+            tf: c.tf,
+            request: c.request,
+            t1,
+        };
+    }
+    let d = count_cycle(counting, c, t1, enabled);
+    if cycles == 2 {
+        return count_cycle(counting, d, second / 0x400_0000 % 2 == 1, enabled);
+    }
+    d
+}
+
+fn settle(s: State, cycles: u8, fresh: bool, first: u32, second: u32) -> State
+    ensures { λ r. ⌜ r ≡ settled s cycles fresh first second ⌝ }
+{
+    let counting = s.counting;
+    let i = s.interrupts;
+    s.with_count(tick(counting, s.count(), cycles, fresh, i.timer, first, second))
+}
+
+// The whole step, without its write to RAM.
+fn plan_step(
+    table: &[u16; 256],
+    program: &[u8],
+    ram: &[u8],
+    s: State,
+    first: u32,
+    second: u32,
+) -> Plan
+    requires { ⌜ now table ≡ packedRows ⌝ }
+    ensures { λ r. ⌜ r ≡ planOf (now (program .entry)) (now (ram .entry)) s first second ⌝ }
+{
+    let c = acting::course_of(table, program, ram, s, first, second);
+    let event = c.event;
+    let write = c.write;
+    if c.number != 0 {
+        return Plan {
+            number: c.number,
+            state: s,
+            event: Event::Quiet,
+            write: Write::Nothing,
+            cycles: 0,
+        };
+    }
+    let state = settle(c.state, c.cycles, c.fresh, first, second);
+    Plan {
+        number: 0,
+        state,
+        event,
+        write,
+        cycles: c.cycles,
+    }
+}
+
+fn do_step(
+    table: &[u16; 256],
+    program: &[u8],
+    ram: &mut [u8],
+    s: State,
+    first: u32,
+    second: u32,
+) -> Outcome
+    requires { ⌜ now table ≡ packedRows ⌝ }
+    ensures answer { λ r. ⌜ r ≡ stepOf (now (program .entry)) (now (ram .entry)) s first second ⌝ }
+    ensures memory { λ r. ⌜ now (ram .exit) ≡ ramAfter (now (program .entry)) (now (ram .entry)) s first second ⌝ }
+{
+    let p = plan_step(table, program, &ram[..], s, first, second);
+    let write = p.write;
+    storing::apply(ram, write);
+    let state = p.state;
+    let event = p.event;
+    Outcome {
+        number: p.number,
+        state,
+        event,
+        cycles: p.cycles,
+    }
+}
+
+// One step. RAM is changed only if it is accepted.
+pub fn step(program: &[u8], ram: &mut [u8], state: State, first: u32, second: u32) -> Outcome
+    ensures answer { λ r. ⌜ r ≡ stepOf (now (program .entry)) (now (ram .entry)) state first second ⌝ }
+    ensures memory { λ r. ⌜ now (ram .exit) ≡ ramAfter (now (program .entry)) (now (ram .entry)) state first second ⌝ }
+{
+    let table = isa::table::opcodes();
+    do_step(&table, program, ram, state, first, second)
+}

@@ -1,0 +1,57 @@
+-- `effects::accumulator::change` meets its contract.
+-- Assumes nothing.
+use borrow.Author.Needs.{needs}
+use Rattle.effects.proofs.accumulator.change.Statement.{statement}
+use Rattle.effects.proofs.accumulator.change.Tie as tie
+
+pub change-spec : {M : Type 1} → statement M
+change-spec =
+    tie.close
+    (tie.spec
+    (λ c. search needs)
+    (λ c. search needs)
+    (λ c κs. search needs)
+    (λ c. search needs)
+    (λ c κs. search needs)
+    (λ c. search needs)
+    (λ c κs. search needs)
+    (λ c. search needs)
+    (λ c. search needs)
+    (λ c. search needs)
+    (λ c. search needs)
+    (λ c κs. search needs)
+    (λ c. search needs)
+    (λ c. search needs)
+    (λ c. search needs)
+    (λ c. search needs)
+    (λ c κs. search needs)
+    (λ c. search needs)
+    (λ c. search needs)
+    (λ c. search needs)
+    (λ c κs. search needs)
+    (λ c. search needs)
+    (λ c. search needs)
+    (λ c. search needs)
+    (λ c κs. search needs)
+    (λ c. search needs)
+    (λ c. search needs)
+    (λ c. search needs)
+    (λ c κs. search needs)
+    (λ c. search needs)
+    (λ c. search needs)
+    (λ c. search needs)
+    (λ c κs. search needs)
+    (λ c. search needs)
+    (λ c. search needs)
+    (λ c. search needs)
+    (λ c κs. search needs)
+    (λ c. simp (c .before .before .enum-told .given .1, c .with-a .ensures))
+    (λ c. simp (c .before .enum-told2 .given .1, c .with-a2 .ensures))
+    (λ c. simp (c .before .enum-told3 .given .1, c .decimal-adjust .ensures))
+    (λ c. simp (c .before .before .enum-told4 .given .1, c .with-a3 .ensures))
+    (λ c. simp (c .before .before .enum-told5 .given .1, c .with-a4 .ensures))
+    (λ c. simp (c .before .before .before .enum-told6 .given .1, c .with-a5 .ensures))
+    (λ c. simp (c .before .before .before .before .enum-told7 .given .1, c .with-a-and-c .ensures))
+    (λ c. simp (c .before .before .before .enum-told8 .given .1, c .with-a6 .ensures))
+    (λ c. simp (c .before .before .before .before .enum-told9 .given .1, c .with-a-and-c2 .ensures))
+    (λ c. simp (c .before .before .before .enum-told10 .given .1, c .with-a7 .ensures)))

@@ -1,0 +1,29 @@
+-- "R0-R7 are RAM 0-7, or 24-31 in bank 1. An indirect address is taken modulo the RAM size."
+-- Assumes nothing.
+use Prim.Native.Nat.{ℕ, _+_, _*_, _%_}
+use mathlib.Core.List.{List}
+use lib.ListN.{length, getD}
+use Rattle.isa.specs.declared.Cell.{Cell}
+use Rattle.isa.specs.declared.Cell.the-variants.{Register, Indirect}
+use Rattle.isa.specs.declared.Source.{Source}
+use Rattle.isa.specs.declared.Source.the-variants.{Memory, Immediate}
+use Rattle.effects.specs.Psw.{bitBs}
+
+abbrev pub cellAt : List ℕ → ℕ → ℕ
+cellAt ram i = getD ram i 0
+
+abbrev pub registerAt : ℕ → ℕ → ℕ
+registerAt psw r = bitBs psw * 24 + r % 8
+
+abbrev pub indirectAt : List ℕ → ℕ → ℕ → ℕ
+indirectAt ram psw r = cellAt ram (registerAt psw r) % length ram
+
+-- Where Rr and @Rr stand in RAM.
+abbrev pub placeOf : Cell → List ℕ → ℕ → ℕ
+placeOf (Register r) ram psw = registerAt psw r
+placeOf (Indirect r) ram psw = indirectAt ram psw r
+
+-- What Rr, @Rr and #data give.
+abbrev pub sourceOf : Source → List ℕ → ℕ → ℕ
+sourceOf (Memory c) ram psw = cellAt ram (placeOf c ram psw)
+sourceOf (Immediate d) ram psw = d

@@ -1,0 +1,94 @@
+// Ports, BUS and the expander.
+use crate::Effect;
+use crate::Event;
+use isa::Digit;
+use isa::Join;
+use isa::Latch;
+use machine::Ports;
+use machine::State;
+ghost use mathlib.Core.Path.{_≡_};
+ghost use Rattle.effects.specs.Ports.{input, latchOf, output, joined, expanderMoved};
+
+// IN and INS: for a port, what is high on both its latch and its pins.
+pub fn read_pins(l: Latch, s: State, second: u32) -> State
+    ensures { λ r. ⌜ r ≡ input l s second ⌝ }
+{
+    let q = s.ports;
+    match l {
+        Latch::Bus => s.with_a((second % 256) as u8),
+        Latch::Port(p) => {
+            if p == 1 {
+                s.with_a(q.p1 & ((second / 0x100 % 256) as u8))
+            } else {
+                s.with_a(q.p2 & ((second / 0x1_0000 % 256) as u8))
+            }
+        }
+    }
+}
+
+pub fn latch_value(l: Latch, s: State) -> u8
+    ensures { λ r. ⌜ r ≡ latchOf l s ⌝ }
+{
+    let q = s.ports;
+    match l {
+        Latch::Bus => q.bus,
+        Latch::Port(p) => { if p == 1 { q.p1 } else { q.p2 } }
+    }
+}
+
+pub fn write_latch(l: Latch, s: State, v: u8) -> State
+    ensures { λ r. ⌜ r ≡ output l s v ⌝ }
+{
+    let q = s.ports;
+    match l {
+        Latch::Bus => s.with_ports(Ports {
+            p1: q.p1,
+            p2: q.p2,
+            bus: v,
+            driven: true,
+        }),
+        Latch::Port(p) => {
+            if p == 1 {
+                s.with_ports(Ports {
+                    p1: v,
+                    p2: q.p2,
+                    bus: q.bus,
+                    driven: q.driven,
+                })
+            } else {
+                s.with_ports(Ports {
+                    p1: q.p1,
+                    p2: v,
+                    bus: q.bus,
+                    driven: q.driven,
+                })
+            }
+        }
+    }
+}
+
+pub fn join_latch(op: Join, x: u8, d: u8) -> u8
+    ensures { λ r. ⌜ r ≡ joined op x d ⌝ }
+{
+    match op {
+        Join::AnlLatch => x & d,
+        Join::OrlLatch => x | d,
+    }
+}
+
+pub fn move_digit(op: Digit, p: u8, s: State, second: u32) -> Effect
+    ensures { λ r. ⌜ r ≡ expanderMoved op p s second ⌝ }
+{
+    match op {
+        Digit::MovdRead => crate::signalled_effect(
+            s.with_a((second / 0x1_0000 % 256 % 16) as u8),
+            Event::ExpanderMove(Digit::MovdRead, p, s.a % 16),
+        ),
+        Digit::MovdWrite => crate::signalled_effect(
+            s,
+            Event::ExpanderMove(Digit::MovdWrite, p, s.a % 16),
+        ),
+        Digit::Orld => crate::signalled_effect(s, Event::ExpanderMove(Digit::Orld, p, s.a % 16)),
+        Digit::Anld => crate::signalled_effect(s, Event::ExpanderMove(Digit::Anld, p, s.a % 16)),
+    }
+}

@@ -1,0 +1,280 @@
+// The machine state, what it may hold, and the counting of one machine cycle.
+ghost use mathlib.Core.Path.{_≡_};
+ghost use Rattle.machine.specs.State.{powerUp, permitted, countOf, withCore, withFlags, withCount, withCounting, withInterrupts, withPorts, withA, withPc, withPsw};
+
+pub mod cycle; // one machine cycle
+
+// "The counter stands still, counts cycles or counts falls of T1: one of the three."
+pub enum Counting {
+    Stopped,
+    Timer,
+    Counter,
+}
+
+// The two interrupt enables and the in-service flag.
+pub struct Interrupts {
+    pub external: bool,
+    pub timer: bool,
+    pub service: bool,
+}
+
+// The latches of P1, P2 and BUS, and whether BUS is driven.
+pub struct Ports {
+    pub p1: u8,
+    pub p2: u8,
+    pub bus: u8,
+    pub driven: bool,
+}
+
+// The machine state. Numbers and flags come first and what is nested last: the order matters for speed (docs/PERFORMANCE.md).
+pub struct State {
+    pub a: u8,
+    pub pc: u16,
+    // bit 7 C, 6 AC, 5 F0, 4 bank BS, 3 always 1, 2 to 0 SP
+    pub psw: u8,
+    pub counting: Counting,
+    // the counter T, its divider, the timer flag TF, the stored timer request, and the last level of T1
+    pub t: u8,
+    pub divider: u8,
+    pub tf: bool,
+    pub request: bool,
+    pub t1: bool,
+    pub f1: bool,
+    pub dbf: bool,
+    // T0 gives out the clock
+    pub clock: bool,
+    pub interrupts: Interrupts,
+    pub ports: Ports,
+}
+
+// The part of the state that counting a cycle changes.
+pub struct Count {
+    pub t: u8,
+    pub divider: u8,
+    pub tf: bool,
+    pub request: bool,
+    pub t1: bool,
+}
+
+impl State {
+    pub const RESET_VECTOR: u16 = 0;
+
+    pub const EXTERNAL_VECTOR: u16 = 3;
+
+    pub const TIMER_VECTOR: u16 = 7;
+
+    pub const PC_LIMIT: u16 = 4096;
+
+    pub const DIVIDER_LIMIT: u8 = 32;
+
+    // The state after power-up.
+    pub fn power_up() -> Self
+        ensures { λ r. ⌜ r ≡ powerUp ⌝ }
+    {
+        State {
+            a: 0,
+            pc: Self::RESET_VECTOR,
+            psw: 0x08,
+            counting: Counting::Stopped,
+            t: 0,
+            divider: 0,
+            tf: false,
+            request: false,
+            t1: false,
+            f1: false,
+            dbf: false,
+            clock: false,
+            interrupts: Interrupts {
+                external: false,
+                timer: false,
+                service: false,
+            },
+            ports: Ports {
+                p1: 0xFF,
+                p2: 0xFF,
+                bus: 0xFF,
+                driven: false,
+            },
+        }
+    }
+
+    // Whether each part is within its size and PSW bit 3 is 1; if not, 3.
+    pub fn is_permitted(self) -> bool
+        ensures { λ r. ⌜ r ≡ permitted self ⌝ }
+    {
+        (self.pc < Self::PC_LIMIT) & (self.divider < Self::DIVIDER_LIMIT) & (self.psw / 8 % 2 == 1)
+    }
+
+    // The changes of a state. Each of the first six builds it anew from all its parts, and the others call one of those: a part that is
+    // copied by itself stays apart in the machine code (docs/PERFORMANCE.md).
+    pub fn with_core(self, a: u8, pc: u16, psw: u8) -> Self
+        ensures { λ r. ⌜ r ≡ withCore self a pc psw ⌝ }
+    {
+        let counting = self.counting;
+        let interrupts = self.interrupts;
+        let ports = self.ports;
+        State {
+            a,
+            pc,
+            psw,
+            counting,
+            t: self.t,
+            divider: self.divider,
+            tf: self.tf,
+            request: self.request,
+            t1: self.t1,
+            f1: self.f1,
+            dbf: self.dbf,
+            clock: self.clock,
+            interrupts,
+            ports,
+        }
+    }
+
+    pub fn with_flags(self, f1: bool, dbf: bool, clock: bool) -> Self
+        ensures { λ r. ⌜ r ≡ withFlags self f1 dbf clock ⌝ }
+    {
+        let counting = self.counting;
+        let interrupts = self.interrupts;
+        let ports = self.ports;
+        State {
+            a: self.a,
+            pc: self.pc,
+            psw: self.psw,
+            counting,
+            t: self.t,
+            divider: self.divider,
+            tf: self.tf,
+            request: self.request,
+            t1: self.t1,
+            f1,
+            dbf,
+            clock,
+            interrupts,
+            ports,
+        }
+    }
+
+    pub fn with_count(self, c: Count) -> Self
+        ensures { λ r. ⌜ r ≡ withCount self c ⌝ }
+    {
+        let counting = self.counting;
+        let interrupts = self.interrupts;
+        let ports = self.ports;
+        State {
+            a: self.a,
+            pc: self.pc,
+            psw: self.psw,
+            counting,
+            t: c.t,
+            divider: c.divider,
+            tf: c.tf,
+            request: c.request,
+            t1: c.t1,
+            f1: self.f1,
+            dbf: self.dbf,
+            clock: self.clock,
+            interrupts,
+            ports,
+        }
+    }
+
+    pub fn with_counting(self, counting: Counting, divider: u8) -> Self
+        ensures { λ r. ⌜ r ≡ withCounting self counting divider ⌝ }
+    {
+        let interrupts = self.interrupts;
+        let ports = self.ports;
+        State {
+            a: self.a,
+            pc: self.pc,
+            psw: self.psw,
+            counting,
+            t: self.t,
+            divider,
+            tf: self.tf,
+            request: self.request,
+            t1: self.t1,
+            f1: self.f1,
+            dbf: self.dbf,
+            clock: self.clock,
+            interrupts,
+            ports,
+        }
+    }
+
+    pub fn with_interrupts(self, interrupts: Interrupts) -> Self
+        ensures { λ r. ⌜ r ≡ withInterrupts self interrupts ⌝ }
+    {
+        let counting = self.counting;
+        let ports = self.ports;
+        State {
+            a: self.a,
+            pc: self.pc,
+            psw: self.psw,
+            counting,
+            t: self.t,
+            divider: self.divider,
+            tf: self.tf,
+            request: self.request,
+            t1: self.t1,
+            f1: self.f1,
+            dbf: self.dbf,
+            clock: self.clock,
+            interrupts,
+            ports,
+        }
+    }
+
+    pub fn with_ports(self, ports: Ports) -> Self
+        ensures { λ r. ⌜ r ≡ withPorts self ports ⌝ }
+    {
+        let counting = self.counting;
+        let interrupts = self.interrupts;
+        State {
+            a: self.a,
+            pc: self.pc,
+            psw: self.psw,
+            counting,
+            t: self.t,
+            divider: self.divider,
+            tf: self.tf,
+            request: self.request,
+            t1: self.t1,
+            f1: self.f1,
+            dbf: self.dbf,
+            clock: self.clock,
+            interrupts,
+            ports,
+        }
+    }
+
+    pub fn with_a(self, a: u8) -> Self
+        ensures { λ r. ⌜ r ≡ withA self a ⌝ }
+    {
+        self.with_core(a, self.pc, self.psw)
+    }
+
+    pub fn with_pc(self, pc: u16) -> Self
+        ensures { λ r. ⌜ r ≡ withPc self pc ⌝ }
+    {
+        self.with_core(self.a, pc, self.psw)
+    }
+
+    pub fn with_psw(self, psw: u8) -> Self
+        ensures { λ r. ⌜ r ≡ withPsw self psw ⌝ }
+    {
+        self.with_core(self.a, self.pc, psw)
+    }
+
+    pub fn count(self) -> Count
+        ensures { λ r. ⌜ r ≡ countOf self ⌝ }
+    {
+        Count {
+            t: self.t,
+            divider: self.divider,
+            tf: self.tf,
+            request: self.request,
+            t1: self.t1,
+        }
+    }
+}
