@@ -1,1 +1,4 @@
+pub mod Choices
 pub mod Fetches
+pub mod Lasting
+pub mod Runs

@@ -7,8 +7,8 @@ use machine::State;
 use machine::cycle::count_cycle;
 ghost use mathlib.Core.Path.{_≡_};
 ghost use Rattle.isa.specs.Table.{packedRows};
-ghost use Rattle.chip.specs.Run.{Standing, Ended, runOver, runOf};
-ghost use Rattle.chip.specs.Step.{planBy, planOf, stepOf, ramAfter, settled, ticked, written};
+ghost use Rattle.chip.specs.Run.{begun, runOver, runOf};
+ghost use Rattle.chip.specs.Step.{planOf, stepOf, ramAfter, settled, ticked};
 
 mod admission; // 1, 2, 3, 6
 mod acting; // reset, interrupt calls, one instruction
@@ -166,4 +166,58 @@ pub fn step(program: &[u8], ram: &mut [u8], state: State, first: u32, second: u3
 {
     let table = isa::table::opcodes();
     do_step(&table, program, ram, state, first, second)
+}
+
+// Steps while two samples remain, or until a refusal.
+fn run_on(table: &[u16; 256], program: &[u8], ram: &mut [u8], start: State, samples: &[u32]) -> Ran
+    requires { ⌜ now table ≡ packedRows ⌝ }
+    ensures answer { λ r. ⌜ r ≡ runOver (now (program .entry)) (now (samples .entry)) 0 (begun (now (ram .entry)) start) .ran ⌝ }
+    ensures memory { λ r. ⌜ now (ram .exit) ≡ runOver (now (program .entry)) (now (samples .entry)) 0 (begun (now (ram .entry)) start) .ram ⌝ }
+{
+    let mut state = start;
+    let mut event = Event::Quiet;
+    let mut i: usize = 0;
+    let mut cycles: u64 = 0;
+    while i + 1 < samples.len() {
+        let r = do_step(table, program, ram, state, samples[i], samples[i + 1]);
+        if r.number != 0 {
+            return Ran {
+                number: r.number,
+                state,
+                used: i,
+                cycles,
+                event,
+            };
+        }
+        state = r.state;
+        event = r.event;
+        i += r.cycles as usize;
+        cycles += r.cycles as u64;
+    }
+    Ran {
+        number: 0,
+        state,
+        used: i,
+        cycles,
+        event,
+    }
+}
+
+// A run: its steps, one by one.
+pub fn run(program: &[u8], ram: &mut [u8], state: State, samples: &[u32]) -> Ran
+    ensures answer { λ r. ⌜ r ≡ runOf (now (program .entry)) (now (ram .entry)) state (now (samples .entry)) .ran ⌝ }
+    ensures memory { λ r. ⌜ now (ram .exit) ≡ runOf (now (program .entry)) (now (ram .entry)) state (now (samples .entry)) .ram ⌝ }
+{
+    let number = admission::standing_number(program.len(), ram.len(), state);
+    if number != 0 {
+        return Ran {
+            number,
+            state,
+            used: 0,
+            cycles: 0,
+            event: Event::Quiet,
+        };
+    }
+    let table = isa::table::opcodes();
+    run_on(&table, program, ram, state, samples)
 }

@@ -2,4 +2,5 @@ pub mod Arms
 pub mod Counts
 pub mod Entries
 pub mod Everywhere
+pub mod Finding
 pub mod Once

@@ -2,12 +2,11 @@
 -- every value that an operand may take; at any other the answer is 23.
 -- Assumes nothing.
 use mathlib.Core.Path.{_≡_, refl, sym, _∙_, ap}
-use mathlib.Core.Bool.{Bool, true, false, _&&_}
+use mathlib.Core.Bool.{Bool, true, false}
 use mathlib.Core.List.{List, [], _∷_}
 use Prim.Native.Nat.{ℕ, suc, zero-le, _+_, _-_, _*_, _/_, _%_, _≤_, _<_}
 use native.Mathlib.Omega.{arith}
-use lib.Dec.{leb}
-use borrow.Author.Tests.{leb-true, leb-false, le-leb, lt-leb}
+use borrow.Author.Tests.{leb-false, le-leb, lt-leb}
 use Rattle.isa.specs.Choice.{pick, within, listed}
 use Rattle.isa.specs.Numbers.{given, refused}
 use Rattle.isa.specs.Sheet.{kindOf, entryOf, instructionOf}
@@ -22,6 +21,7 @@ use Rattle.isa.specs.declared.Join.{Join}
 use Rattle.isa.specs.declared.Instruction.{Instruction}
 use Rattle.isa.specs.declared.Instruction.the-variants.{Logic, MovData}
 use Rattle.isa.specs.declared.Refusal.the-variants.{OperandTooLarge}
+use Rattle.isa.proofs.Entries.{within-true}
 use Rattle.isa.proofs.Everywhere.{between}
 use Rattle.writer.specs.Codes.{codedLow, codedHigh, withSecond, cellCode, sourceCode, latchCode}
 use Rattle.writer.specs.Writing.{Writes, writtenAs, holds, cellHolds, sourceHolds, latchHolds, farHolds}
@@ -45,14 +45,6 @@ reads-two b d i k =
     let size : entryOf b .bytes ≡ 2 = cc in
     let same : instructionOf b d ≡ i = cc in
     simp (size, same)
-
--- A test between the numbers low and high, taken apart and put together.
-pub within-true : (low high k : ℕ) → within low high k ≡ true → (low ≤ k) × (k ≤ high)
-within-true low high k e = go (leb low k) refl e
-  where
-    go : (p : Bool) → leb low k ≡ p → (p && leb k high) ≡ true → (low ≤ k) × (k ≤ high)
-    go true h t = (leb-true low k h, leb-true k high t)
-    go false h t = let z : _≡_ {A = ℕ} 0 1 = cc in absurd (omega arith)
 
 -- A code that holds an operand k from low to high, alone (n is 1) or before a second byte d (n is 2); or 23. The sheet has it at each
 -- value from low to high.

@@ -13,48 +13,10 @@ use Rattle.isa.specs.Numbers.{Answer, given, refused}
 use Rattle.isa.specs.Sheet.{entryOf, instructionOf}
 use Rattle.isa.specs.Reading.{Sized, sized, readOf, instructionAt, decodedAt, nextPc, lacks, byteAt}
 use Rattle.isa.specs.declared.Instruction.{Instruction}
+use Rattle.isa.proofs.Finding.{Found, alone, paired, found, read-there}
 use Rattle.writer.specs.Standing.{Bytes, BytesIn, StandsAt, Stands}
 use Rattle.writer.specs.Writing.{Writes, holds}
 use Rattle.writer.proofs.Back.{bytesBack, bytes-back, holds-back}
-
--- What is known where an instruction of n bytes is read: it is the one that the sheet has for the byte there, alone or with the next.
-data Found (program : List ℕ) (a : ℕ) (i : Instruction) : ℕ → Type 0 where
-  alone :
-      lacks program a ≡ false → eqb (entryOf (byteAt program a) .bytes) 0 ≡ false → eqb (entryOf (byteAt program a) .bytes) 1 ≡ true
-      → instructionOf (byteAt program a) 0 ≡ i → Found program a i 1
-  paired :
-      lacks program a ≡ false → eqb (entryOf (byteAt program a) .bytes) 0 ≡ false → eqb (entryOf (byteAt program a) .bytes) 1 ≡ false
-      → lacks program (nextPc a) ≡ false → instructionOf (byteAt program a) (byteAt program (nextPc a)) ≡ i → Found program a i 2
-
-found : (program : List ℕ) (a : ℕ) (i : Instruction) (n : ℕ) → readOf program a ≡ given (sized i n) → Found program a i n
-unfolding readOf instructionAt decodedAt pick
-found program a i n r =
-    go (ltb 4096 (length program)) (lacks program a) (eqb size 0) (eqb size 1) (lacks program (nextPc a)) refl refl refl refl r
-  where
-    size : ℕ
-    size = entryOf (byteAt program a) .bytes
-
-    short : Instruction
-    short = instructionOf (byteAt program a) 0
-
-    long : Instruction
-    long = instructionOf (byteAt program a) (byteAt program (nextPc a))
-
-    go :
-        (p q s t u : Bool) → lacks program a ≡ q → eqb size 0 ≡ s → eqb size 1 ≡ t → lacks program (nextPc a) ≡ u
-        → pick p (refused 1) (pick q (refused 5) (pick s (refused 4) (pick t (given (sized short 1)) (pick u (refused 5) (given (sized long 2))))))
-        ≡ given (sized i n)
-        → Found program a i n
-    go true q s t u hq hs ht hu e = let z : _≡_ {A = ℕ} 0 1 = cc in absurd (omega arith)
-    go false true s t u hq hs ht hu e = let z : _≡_ {A = ℕ} 0 1 = cc in absurd (omega arith)
-    go false false true t u hq hs ht hu e = let z : _≡_ {A = ℕ} 0 1 = cc in absurd (omega arith)
-    go false false false true u hq hs ht hu e =
-        let size : 1 ≡ n = cc in
-        subst (λ (k : ℕ). Found program a i k) size (alone hq hs ht (cc))
-    go false false false false true hq hs ht hu e = let z : _≡_ {A = ℕ} 0 1 = cc in absurd (omega arith)
-    go false false false false false hq hs ht hu e =
-        let size : 2 ≡ n = cc in
-        subst (λ (k : ℕ). Found program a i k) size (paired hq hs ht hu (cc))
 
 -- The same of bytes that the writer gives: they are one or two.
 data Whole (i : Instruction) : List ℕ → Type 0 where
@@ -64,7 +26,7 @@ data Whole (i : Instruction) : List ℕ → Type 0 where
       (b d : ℕ) → eqb (entryOf b .bytes) 0 ≡ false → eqb (entryOf b .bytes) 1 ≡ false → instructionOf b d ≡ i → Whole i (b ∷ d ∷ [])
 
 whole : (i : Instruction) (bytes : List ℕ) → Writes i (given bytes) → Whole i bytes
-whole i bytes w = go bytes (length bytes) refl (found bytes 0 i (length bytes) w)
+whole i bytes w = go bytes (length bytes) refl (found bytes 0 i (length bytes) (read-there bytes 0 i (length bytes) w))
   where
     go : (v : List ℕ) (n : ℕ) → n ≡ length v → Found v 0 i n → Whole i v
     go [] n e (alone h p q j) = absurd (omega arith)
@@ -102,7 +64,7 @@ pub read-stands :
     (program : List ℕ) (a : ℕ) (i : Instruction) (n : ℕ) → Bytes program → readOf program a ≡ given (sized i n)
     → StandsAt program a (bytesBack i) × (holds i ≡ true)
 unfolding pick
-read-stands program a i n small r = go n (found program a i n r)
+read-stands program a i n small r = go n (found program a i n (read-there program a i n r))
   where
     b : ℕ
     b = byteAt program a
