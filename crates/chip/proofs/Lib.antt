@@ -1,3 +1,4 @@
+pub mod Bench
 pub mod Choices
 pub mod Fetches
 pub mod Lasting

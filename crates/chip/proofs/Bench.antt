@@ -1,0 +1,17 @@
+-- The sixteen bench cases hold, by computation from the definitions.
+-- Assumes nothing.
+use mathlib.Core.List.{map}
+use mathlib.Core.Path.{_≡_, refl}
+use Rattle.isa.specs.Choice.{pick}
+use Rattle.isa.specs.Reading.{instructionAt, decodedAt}
+use Rattle.isa.specs.Sheet.{kindOf, entryOf}
+use Rattle.effects.specs.Execute.{executed}
+use Rattle.effects.specs.Stack.{pushed}
+use Rattle.chip.specs.Admission.{standing, admission}
+use Rattle.chip.specs.Cases.{Case, seen, cases}
+use Rattle.chip.specs.Run.{runOver, runOf}
+use Rattle.chip.specs.Step.{declined, accepted, resetState, called, withoutRequest, done, carried, course, ticked, settled, planBy, written}
+
+pub bench : map seen cases ≡ map (λ c. c .want) cases
+unfolding runOf runOver planBy settled ticked course carried done accepted declined resetState called withoutRequest written admission standing executed pushed instructionAt decodedAt entryOf kindOf pick
+bench = refl
