@@ -1,5 +1,6 @@
 pub mod Bench
 pub mod Choices
+pub mod Exactly
 pub mod Fetches
 pub mod Lasting
 pub mod Runs

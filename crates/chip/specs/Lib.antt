@@ -1,4 +1,5 @@
 pub mod Admission
 pub mod Cases
+pub mod Refusals
 pub mod Run
 pub mod Step

@@ -1,0 +1,253 @@
+-- A step gives a number exactly when document 01's table says so; and a refused step changes nothing (demand 1).
+-- Assumes nothing.
+use Prim.Native.Nat.{ℕ}
+use mathlib.Core.Bool.{Bool, true, false, not, _&&_}
+use mathlib.Core.List.{List}
+use mathlib.Core.Path.{_≡_, refl, sym, _∙_, ap, subst}
+use native.Mathlib.Omega.{arith}
+use lib.Dec.{eqb}
+use lib.ListN.{length}
+use borrow.Author.Tests.{eqb-true, eqb-false, eq-eqb, ne-eqb}
+use Rattle.isa.specs.Choice.{pick}
+use Rattle.isa.specs.Numbers.{Answer, given, refused}
+use Rattle.isa.specs.Reading.{Sized, sized, lacks, nextPc, byteAt, instructionAt, decodedAt}
+use Rattle.isa.specs.Sheet.{entryOf}
+use Rattle.isa.specs.declared.Digit.the-variants.{MovdRead, MovdWrite, Orld, Anld}
+use Rattle.isa.specs.declared.Switch.the-variants.{EnI, DisI, Ent0Clk, SelMb0, SelMb1, SelRb0, SelRb1, EnTcnti, DisTcnti, StopTcnt, StrtCnt, StrtT}
+use Rattle.isa.specs.declared.Instruction.{Instruction}
+use Rattle.isa.specs.declared.Instruction.the-variants.{Alu, Accumulator, Djnz, Branch, Jmp, Jmpp, Control, MovA, Mov, MovData, MovAPsw, MovPswA, Movp, Movp3, MovxRead, MovxWrite, Xch, Xchd, Cpl, Clr, Logic, In, Outl, Expander, Dec, Inc, Call, Ret, Retr, MovAT, MovTA, Nop}
+use Rattle.machine.specs.State.{permitted, withPc}
+use Rattle.machine.specs.declared.State.{State}
+use Rattle.effects.specs.Execute.{executed}
+use Rattle.effects.specs.Moves.{quiet}
+use Rattle.effects.specs.Pins.{low}
+use Rattle.effects.specs.Stack.{pushed}
+use Rattle.effects.specs.declared.Effect.{Effect}
+use Rattle.effects.specs.declared.Event.the-variants.{Quiet}
+use Rattle.effects.specs.declared.Write.the-variants.{Nothing}
+use Rattle.chip.specs.Admission.{programAllowed, ramAllowed, sampleAllowed, standing, admission}
+use Rattle.chip.specs.Refusals.{Fetches, Gives, program-length, ram-length, state-outside, sample-bits, no-first-byte, undefined-code, no-second-byte, no-table-byte}
+use Rattle.chip.specs.Step.{externalCalls, timerCalls, pcAfter, resetState, called, withoutRequest, declined, accepted, done, carriedBy, carried, course, planBy, planOf, stepOf, ramAfter, written}
+use Rattle.chip.specs.declared.Course.{Course}
+use Rattle.chip.specs.declared.Plan.{Plan}
+use Rattle.chip.specs.declared.Outcome.{Outcome}
+use Rattle.chip.proofs.Choices.{either}
+
+-- A refused step returns its number, the state it got, no event and 0 cycles, and leaves RAM as it was.
+pub record Unchanged (ram : List ℕ) (s : State) (p : Plan) : Type 0 where
+  pub state : p .state ≡ s
+  pub event : p .event ≡ Quiet
+  pub cycles : p .cycles ≡ 0
+  pub memory : written ram (p .write) ≡ ram
+
+pub refused-unchanged :
+    (program ram : List ℕ) (s : State) (first second : ℕ) → (planOf program ram s first second .number ≡ 0 → ⊥)
+    → Unchanged ram s (planOf program ram s first second)
+unfolding planBy written
+refused-unchanged program ram s first second n =
+    either (λ p. (p .number ≡ 0 → ⊥) → Unchanged ram s p) _ _ _ (λ t h. absurd (h refl))
+    (λ t h. record { state = refl; event = refl; cycles = refl; memory = refl }) n
+
+-- The number of a step is its course's.
+number-of : (c : Course) (s : State) (first second : ℕ) → planBy c s first second .number ≡ c .number
+unfolding planBy pick
+number-of c s first second = go (eqb (c .number) 0) refl
+  where
+    go : (b : Bool) → eqb (c .number) 0 ≡ b → planBy c s first second .number ≡ c .number
+    go true h = rw h (sym (eqb-true _ _ h))
+    go false h = rw h
+
+-- An instruction gives 0, or 5 for its table byte.
+table-5 : (b : Bool) (x y : Effect) → x .number ≡ 5 → y .number ≡ 0 → (pick b x y .number ≡ 0 → ⊥) → pick b x y .number ≡ 5
+unfolding pick
+table-5 true x y p q h = p
+table-5 false x y p q h = absurd (h q)
+
+module _ (program ram : List ℕ) (s : State) (base first second : ℕ) where
+  number-5 : (i : Instruction) → (executed i program ram s base first second .number ≡ 0 → ⊥) → executed i program ram s base first second .number ≡ 5
+  unfolding executed pushed
+  number-5 (Alu op from) h = absurd (h refl)
+  number-5 (Accumulator op) h = absurd (h refl)
+  number-5 (Djnz r d) h = absurd (h refl)
+  number-5 (Branch c d) h = absurd (h refl)
+  number-5 (Jmp a) h = absurd (h refl)
+  number-5 Jmpp h = table-5 _ _ _ refl refl h
+  number-5 (Control EnI) h = absurd (h refl)
+  number-5 (Control DisI) h = absurd (h refl)
+  number-5 (Control Ent0Clk) h = absurd (h refl)
+  number-5 (Control SelMb0) h = absurd (h refl)
+  number-5 (Control SelMb1) h = absurd (h refl)
+  number-5 (Control SelRb0) h = absurd (h refl)
+  number-5 (Control SelRb1) h = absurd (h refl)
+  number-5 (Control EnTcnti) h = absurd (h refl)
+  number-5 (Control DisTcnti) h = absurd (h refl)
+  number-5 (Control StopTcnt) h = absurd (h refl)
+  number-5 (Control StrtCnt) h = absurd (h refl)
+  number-5 (Control StrtT) h = absurd (h refl)
+  number-5 (MovA from) h = absurd (h refl)
+  number-5 (Mov to) h = absurd (h refl)
+  number-5 (MovData to d) h = absurd (h refl)
+  number-5 MovAPsw h = absurd (h refl)
+  number-5 MovPswA h = absurd (h refl)
+  number-5 Movp h = table-5 _ _ _ refl refl h
+  number-5 Movp3 h = table-5 _ _ _ refl refl h
+  number-5 (MovxRead r) h = absurd (h refl)
+  number-5 (MovxWrite r) h = absurd (h refl)
+  number-5 (Xch c) h = absurd (h refl)
+  number-5 (Xchd r) h = absurd (h refl)
+  number-5 (Cpl f) h = absurd (h refl)
+  number-5 (Clr f) h = absurd (h refl)
+  number-5 (Logic op l d) h = absurd (h refl)
+  number-5 (In l) h = absurd (h refl)
+  number-5 (Outl l) h = absurd (h refl)
+  number-5 (Expander MovdRead p) h = absurd (h refl)
+  number-5 (Expander MovdWrite p) h = absurd (h refl)
+  number-5 (Expander Orld p) h = absurd (h refl)
+  number-5 (Expander Anld p) h = absurd (h refl)
+  number-5 (Dec r) h = absurd (h refl)
+  number-5 (Inc c) h = absurd (h refl)
+  number-5 (Call a) h = absurd (h refl)
+  number-5 Ret h = absurd (h refl)
+  number-5 Retr h = absurd (h refl)
+  number-5 MovAT h = absurd (h refl)
+  number-5 MovTA h = absurd (h refl)
+  number-5 Nop h = absurd (h refl)
+
+module _ (program ram : List ℕ) (s : State) (first second : ℕ) where
+  abbrev pub G : ℕ → Type 0
+  G n = Gives program ram s first second n
+
+  given-by : {m n : ℕ} → m ≡ n → G m → G n
+  given-by e g = subst (λ (k : ℕ). G k) e g
+
+  -- 1, 2, 3.
+  standing-gives : (n : ℕ) → standing (length program) (length ram) s ≡ n → (n ≡ 0 → ⊥) → G n
+  unfolding standing pick
+  standing-gives n e z = go (programAllowed (length program)) (ramAllowed (length ram)) (permitted s) refl refl refl e
+    where
+      go :
+          (p r q : Bool) → programAllowed (length program) ≡ p → ramAllowed (length ram) ≡ r → permitted s ≡ q
+          → pick (not p) 1 (pick (not r) 2 (pick (not q) 3 0)) ≡ n → G n
+      go false r q hp hr hq e = given-by e (program-length hp)
+      go true false q hp hr hq e = given-by e (ram-length hp hr)
+      go true true false hp hr hq e = given-by e (state-outside hp hr hq)
+      go true true true hp hr hq e = absurd (z (sym e))
+
+  pub record Stands : Type 0 where
+    pub program-allowed : programAllowed (length program) ≡ true
+    pub ram-allowed : ramAllowed (length ram) ≡ true
+    pub state-permitted : permitted s ≡ true
+
+  stands : standing (length program) (length ram) s ≡ 0 → Stands
+  unfolding standing pick
+  stands e = go (programAllowed (length program)) (ramAllowed (length ram)) (permitted s) refl refl refl e
+    where
+      go :
+          (p r q : Bool) → programAllowed (length program) ≡ p → ramAllowed (length ram) ≡ r → permitted s ≡ q
+          → _≡_ {A = ℕ} (pick (not p) 1 (pick (not r) 2 (pick (not q) 3 0))) 0 → Stands
+      go false r q hp hr hq e = absurd (omega arith)
+      go true false q hp hr hq e = absurd (omega arith)
+      go true true false hp hr hq e = absurd (omega arith)
+      go true true true hp hr hq e = record { program-allowed = hp; ram-allowed = hr; state-permitted = hq }
+
+  -- And 6.
+  admission-gives : (n : ℕ) → admission (length program) (length ram) s first second ≡ n → (n ≡ 0 → ⊥) → G n
+  unfolding admission pick
+  admission-gives n e z = go (eqb (standing (length program) (length ram) s) 0) (sampleAllowed first && sampleAllowed second) refl refl e
+    where
+      go :
+          (p q : Bool) → eqb (standing (length program) (length ram) s) 0 ≡ p → (sampleAllowed first && sampleAllowed second) ≡ q
+          → pick (not p) (standing (length program) (length ram) s) (pick (not q) 6 0) ≡ n → G n
+      go false q hp hq e = standing-gives n e z
+      go true false hp hq e =
+          let h = stands (eqb-true _ _ hp) in
+          given-by e (sample-bits (h .program-allowed) (h .ram-allowed) (h .state-permitted) hq)
+      go true true hp hq e = absurd (z (sym e))
+
+  -- 5, 4, 5.
+  answer-gives : Fetches program ram s first second → (n : ℕ) → instructionAt program (s .pc) ≡ refused n → G n
+  unfolding instructionAt decodedAt pick
+  answer-gives f n e = go (lacks program (s .pc)) (eqb size 0) (eqb size 1) (lacks program (nextPc (s .pc))) refl refl refl refl _ _ e
+    where
+      size : ℕ
+      size = entryOf (byteAt program (s .pc)) .bytes
+
+      go :
+          (q p t u : Bool) → lacks program (s .pc) ≡ q → eqb size 0 ≡ p → eqb size 1 ≡ t → lacks program (nextPc (s .pc)) ≡ u
+          → (x y : Sized) → pick q (refused 5) (pick p (refused 4) (pick t (given x) (pick u (refused 5) (given y)))) ≡ refused n → G n
+      go true p t u hq hp ht hu x y e = given-by (cc) (no-first-byte f hq)
+      go false true t u hq hp ht hu x y e = given-by (cc) (undefined-code f hq hp)
+      go false false true u hq hp ht hu x y e = let z : _≡_ {A = ℕ} 0 1 = cc in absurd (omega arith)
+      go false false false true hq hp ht hu x y e = given-by (cc) (no-second-byte f hq hp ht hu)
+      go false false false false hq hp ht hu x y e = let z : _≡_ {A = ℕ} 0 1 = cc in absurd (omega arith)
+
+  carried-gives : Fetches program ram s first second → (n : ℕ) → carried program ram s first second .number ≡ n → (n ≡ 0 → ⊥) → G n
+  unfolding carried done accepted declined pick
+  carried-gives f n e z = go (instructionAt program (s .pc)) refl e
+    where
+      go : (a : Answer Sized) → instructionAt program (s .pc) ≡ a → carriedBy a program ram s first second .number ≡ n → G n
+      go (refused m) h e = given-by e (answer-gives f m h)
+      go (given (sized i k)) h e = table (eqb (effect .number) 0) refl e
+        where
+          effect : Effect
+          effect = executed i program ram (withPc s (pcAfter k (s .pc))) (s .pc) first second
+
+          table : (b : Bool) → eqb (effect .number) 0 ≡ b → pick b (accepted effect (entryOf (byteAt program (s .pc)) .cycles)) (declined (effect .number) s) .number ≡ n → G n
+          table true t e = absurd (z (sym e))
+          table false t e =
+              let five : effect .number ≡ 5 = number-5 program ram _ _ first second i (eqb-false _ _ t) in
+              given-by (sym five ∙ e) (no-table-byte i k f h five)
+
+  -- A step that gives a number has the table's reason for it.
+  pub exactly-from : (n : ℕ) → stepOf program ram s first second .number ≡ n → (n ≡ 0 → ⊥) → G n
+  unfolding course accepted declined pick
+  exactly-from n e z =
+      go (eqb number 0) (low 27 first) (externalCalls s first) (timerCalls s) refl refl refl refl
+      (sym (number-of (course program ram s first second) s first second) ∙ e)
+    where
+      number : ℕ
+      number = admission (length program) (length ram) s first second
+
+      go :
+          (p q r t : Bool) → eqb number 0 ≡ p → low 27 first ≡ q → externalCalls s first ≡ r → timerCalls s ≡ t
+          → pick (not p) (declined number s) (pick q (accepted (quiet (resetState s)) 1) (pick r (accepted (called s 3) 2)
+          (pick t (accepted (called (withoutRequest s) 7) 2) (carried program ram s first second)))) .number ≡ n → G n
+      go false q r t hp hq hr ht e = admission-gives n e z
+      go true true r t hp hq hr ht e = absurd (z (sym e))
+      go true false true t hp hq hr ht e = absurd (z (sym e))
+      go true false false true hp hq hr ht e = absurd (z (sym e))
+      go true false false false hp hq hr ht e =
+          carried-gives (record { admitted = eqb-true _ _ hp; running = hq; no-external = hr; no-timer = ht }) n e z
+
+  -- And where the table has a reason, the step gives the number.
+  not-admitted : (n : ℕ) → admission (length program) (length ram) s first second ≡ n → (n ≡ 0 → ⊥) → course program ram s first second .number ≡ n
+  unfolding course declined pick
+  not-admitted n e z = rw (e, ne-eqb _ _ z)
+
+  comes-to : Fetches program ram s first second → course program ram s first second ≡ carried program ram s first second
+  unfolding course pick
+  comes-to f = rw (f .admitted, f .running, f .no-external, f .no-timer)
+
+  reads : Fetches program ram s first second → (n : ℕ) → instructionAt program (s .pc) ≡ refused n → course program ram s first second .number ≡ n
+  unfolding carried declined
+  reads f n e = rw (comes-to f, e)
+
+  table :
+      (i : Instruction) (k : ℕ) → instructionAt program (s .pc) ≡ given (sized i k)
+      → executed i program ram (withPc s (pcAfter k (s .pc))) (s .pc) first second .number ≡ 5 → carried program ram s first second .number ≡ 5
+  unfolding carried done declined pick
+  table i k e t = rw (e, t)
+
+  course-gives : (n : ℕ) → G n → course program ram s first second .number ≡ n
+  unfolding admission standing instructionAt decodedAt pick
+  course-gives n (program-length p) = not-admitted 1 (rw p) (λ z. omega arith)
+  course-gives n (ram-length p r) = not-admitted 2 (rw (p, r)) (λ z. omega arith)
+  course-gives n (state-outside p r q) = not-admitted 3 (rw (p, r, q)) (λ z. omega arith)
+  course-gives n (sample-bits p r q b) = not-admitted 6 (rw (p, r, q, b)) (λ z. omega arith)
+  course-gives n (no-first-byte f l) = reads f 5 (rw l)
+  course-gives n (undefined-code f l u) = reads f 4 (rw (l, u))
+  course-gives n (no-second-byte f l u o m) = reads f 5 (rw (l, u, o, m))
+  course-gives n (no-table-byte i k f e t) = ap (λ (c : Course). c .number) (comes-to f) ∙ table i k e t
+
+  pub exactly-to : (n : ℕ) → G n → stepOf program ram s first second .number ≡ n
+  exactly-to n g = number-of (course program ram s first second) s first second ∙ course-gives n g

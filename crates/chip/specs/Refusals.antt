@@ -1,0 +1,46 @@
+-- Document 01's table of numbers for a step, row by row and in its order: "Given exactly when".
+-- Assumes nothing.
+use Prim.Native.Nat.{ℕ}
+use mathlib.Core.Bool.{true, false, _&&_}
+use mathlib.Core.List.{List}
+use mathlib.Core.Path.{_≡_}
+use lib.Dec.{eqb}
+use lib.ListN.{length}
+use Rattle.isa.specs.Numbers.{given}
+use Rattle.isa.specs.Reading.{sized, nextPc, lacks, byteAt, instructionAt}
+use Rattle.isa.specs.Sheet.{entryOf}
+use Rattle.isa.specs.declared.Instruction.{Instruction}
+use Rattle.machine.specs.State.{permitted, withPc}
+use Rattle.machine.specs.declared.State.{State}
+use Rattle.effects.specs.Execute.{executed}
+use Rattle.effects.specs.Pins.{low}
+use Rattle.chip.specs.Admission.{programAllowed, ramAllowed, sampleAllowed, admission}
+use Rattle.chip.specs.Step.{externalCalls, timerCalls, pcAfter}
+
+-- The step comes to fetch: none of 1, 2, 3, 6, no reset and no interrupt call.
+pub record Fetches (program ram : List ℕ) (s : State) (first second : ℕ) : Type 0 where
+  pub admitted : admission (length program) (length ram) s first second ≡ 0
+  pub running : low 27 first ≡ false
+  pub no-external : externalCalls s first ≡ false
+  pub no-timer : timerCalls s ≡ false
+
+-- The step gives the number.
+pub data Gives (program ram : List ℕ) (s : State) (first second : ℕ) : ℕ → Type 0 where
+  program-length : programAllowed (length program) ≡ false → Gives program ram s first second 1
+  ram-length : programAllowed (length program) ≡ true → ramAllowed (length ram) ≡ false → Gives program ram s first second 2
+  state-outside :
+      programAllowed (length program) ≡ true → ramAllowed (length ram) ≡ true → permitted s ≡ false → Gives program ram s first second 3
+  sample-bits :
+      programAllowed (length program) ≡ true → ramAllowed (length ram) ≡ true → permitted s ≡ true
+      → (sampleAllowed first && sampleAllowed second) ≡ false → Gives program ram s first second 6
+  no-first-byte : Fetches program ram s first second → lacks program (s .pc) ≡ true → Gives program ram s first second 5
+  undefined-code :
+      Fetches program ram s first second → lacks program (s .pc) ≡ false → eqb (entryOf (byteAt program (s .pc)) .bytes) 0 ≡ true
+      → Gives program ram s first second 4
+  no-second-byte :
+      Fetches program ram s first second → lacks program (s .pc) ≡ false → eqb (entryOf (byteAt program (s .pc)) .bytes) 0 ≡ false
+      → eqb (entryOf (byteAt program (s .pc)) .bytes) 1 ≡ false → lacks program (nextPc (s .pc)) ≡ true → Gives program ram s first second 5
+  -- MOVP, MOVP3 and JMPP
+  no-table-byte :
+      (i : Instruction) (n : ℕ) → Fetches program ram s first second → instructionAt program (s .pc) ≡ given (sized i n)
+      → executed i program ram (withPc s (pcAfter n (s .pc))) (s .pc) first second .number ≡ 5 → Gives program ram s first second 5
