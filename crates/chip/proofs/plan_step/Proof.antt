@@ -2,14 +2,13 @@
 -- Assumes nothing.
 use Rattle.chip.specs.Step.{planBy}
 use Rattle.isa.specs.Choice.{pick}
-use Rattle.isa.specs.Table.{packedRows}
 use borrow.Author.Needs.{needs}
 use borrow.Author.Tests.{eq-eqb, ne-eqb}
 use Rattle.chip.proofs.plan_step.Statement.{statement}
 use Rattle.chip.proofs.plan_step.Tie as tie
 
 pub plan-step-spec : {M : Type 1} → statement M
-unfolding packedRows pick planBy
+unfolding planBy pick
 plan-step-spec = tie.close (tie.spec
     (λ c κs. search needs)
     (λ c. rw (← (c .before .before .course-of .ensures), ne-eqb _ _ (c .if1 .taken)))

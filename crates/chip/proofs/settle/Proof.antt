@@ -1,13 +1,12 @@
 -- `chip::settle` meets its contract.
 -- Assumes nothing.
-use Rattle.chip.specs.Step.{planBy, settled}
-use Rattle.isa.specs.Choice.{pick}
+use Rattle.chip.specs.Step.{settled}
 use borrow.Author.Needs.{needs}
 use Rattle.chip.proofs.settle.Statement.{statement}
 use Rattle.chip.proofs.settle.Tie as tie
 
 pub settle-spec : {M : Type 1} → statement M
-unfolding pick planBy settled
+unfolding settled
 settle-spec = tie.close (tie.spec
     (λ c κs. search needs)
     (λ c κs. search needs)

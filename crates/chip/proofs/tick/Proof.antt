@@ -1,6 +1,6 @@
 -- `chip::tick` meets its contract.
 -- Assumes nothing.
-use Rattle.chip.specs.Step.{planBy, ticked}
+use Rattle.chip.specs.Step.{ticked}
 use Rattle.isa.specs.Choice.{pick}
 use borrow.Author.Needs.{needs}
 use borrow.Author.Tests.{eq-eqb, ne-eqb}
@@ -8,7 +8,7 @@ use Rattle.chip.proofs.tick.Statement.{statement}
 use Rattle.chip.proofs.tick.Tie as tie
 
 pub tick-spec : {M : Type 1} → statement M
-unfolding pick planBy ticked
+unfolding ticked pick
 tick-spec =
     tie.close (tie.spec
     (λ c. rw (c .if1 .taken))

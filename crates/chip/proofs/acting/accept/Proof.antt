@@ -1,12 +1,11 @@
 -- `chip::acting::accept` meets its contract.
 -- Assumes nothing.
 use borrow.Author.Needs.{needs}
-use Rattle.isa.specs.Choice.{pick}
-use Rattle.chip.specs.Step.{accepted, planBy}
+use Rattle.chip.specs.Step.{accepted}
 use Rattle.chip.proofs.acting.accept.Statement.{statement}
 use Rattle.chip.proofs.acting.accept.Tie as tie
 
 pub accept-spec : {M : Type 1} → statement M
-unfolding accepted pick planBy
+unfolding accepted
 accept-spec = tie.close (tie.spec
     (λ c. search needs))

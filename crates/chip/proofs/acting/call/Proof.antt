@@ -1,13 +1,12 @@
 -- `chip::acting::call` meets its contract.
 -- Assumes nothing.
-use Rattle.isa.specs.Choice.{pick}
-use Rattle.chip.specs.Step.{called, planBy}
+use Rattle.chip.specs.Step.{called}
 use borrow.Author.Needs.{needs}
 use Rattle.chip.proofs.acting.call.Statement.{statement}
 use Rattle.chip.proofs.acting.call.Tie as tie
 
 pub call-spec : {M : Type 1} → statement M
-unfolding called pick planBy
+unfolding called
 call-spec = tie.close (tie.spec
     (λ c κs. search needs)
     (λ c κs. search needs)

@@ -1,15 +1,14 @@
 -- `chip::acting::course_of` meets its contract.
 -- Assumes nothing.
 use Rattle.isa.specs.Choice.{pick}
-use Rattle.isa.specs.Table.{packedRows}
-use Rattle.chip.specs.Step.{course, planBy}
+use Rattle.chip.specs.Step.{course}
 use borrow.Author.Needs.{needs}
 use borrow.Author.Tests.{eq-eqb, ne-eqb}
 use Rattle.chip.proofs.acting.course_of.Statement.{statement}
 use Rattle.chip.proofs.acting.course_of.Tie as tie
 
 pub course-of-spec : {M : Type 1} → statement M
-unfolding course packedRows pick planBy
+unfolding course pick
 course-of-spec =
     tie.close
     (tie.spec

@@ -1,6 +1,5 @@
 -- `chip::admission::admission_number` meets its contract.
 -- Assumes nothing.
-use Rattle.chip.specs.Step.{planBy}
 use Rattle.isa.specs.Choice.{pick}
 use Rattle.chip.specs.Admission.{admission}
 use borrow.Author.Needs.{needs}
@@ -9,7 +8,7 @@ use Rattle.chip.proofs.admission.admission_number.Statement.{statement}
 use Rattle.chip.proofs.admission.admission_number.Tie as tie
 
 pub admission-number-spec : {M : Type 1} → statement M
-unfolding admission pick planBy
+unfolding admission pick
 admission-number-spec =
     tie.close (tie.spec
     (λ c κs. search needs)

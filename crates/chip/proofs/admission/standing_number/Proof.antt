@@ -1,14 +1,13 @@
 -- `chip::admission::standing_number` meets its contract.
 -- Assumes nothing.
 use Rattle.chip.specs.Admission.{standing}
-use Rattle.chip.specs.Step.{planBy}
 use Rattle.isa.specs.Choice.{pick}
 use borrow.Author.Needs.{needs}
 use Rattle.chip.proofs.admission.standing_number.Statement.{statement}
 use Rattle.chip.proofs.admission.standing_number.Tie as tie
 
 pub standing-number-spec : {M : Type 1} → statement M
-unfolding pick planBy standing
+unfolding standing pick
 standing-number-spec =
     tie.close
     (tie.spec

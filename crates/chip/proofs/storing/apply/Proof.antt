@@ -1,13 +1,12 @@
 -- `chip::storing::apply` meets its contract.
 -- Assumes nothing.
-use Rattle.chip.specs.Step.{planBy, written}
-use Rattle.isa.specs.Choice.{pick}
+use Rattle.chip.specs.Step.{written}
 use borrow.Author.Needs.{needs}
 use Rattle.chip.proofs.storing.apply.Statement.{statement}
 use Rattle.chip.proofs.storing.apply.Tie as tie
 
 pub apply-spec : {M : Type 1} → statement M
-unfolding pick planBy written
+unfolding written
 apply-spec =
     tie.close
     (tie.spec
