@@ -25,8 +25,8 @@ pub fn clear(f: Flag, s: State) -> State
     ensures { λ r. ⌜ r ≡ cleared f s ⌝ }
 {
     match f {
-        Flag::FlagC => s.with_psw(s.psw % 128 + 0 * 128),
-        Flag::FlagF0 => s.with_psw(s.psw / 64 * 64 + 0 * 32 + s.psw % 32),
+        Flag::FlagC => s.with_psw(s.psw % 128),
+        Flag::FlagF0 => s.with_psw(s.psw / 64 * 64 + s.psw % 32),
         Flag::FlagF1 => with_f1(s, false),
     }
 }
@@ -79,8 +79,8 @@ pub fn switch(op: Switch, s: State) -> Effect
         Switch::Ent0Clk => crate::quiet_effect(s.with_flags(s.f1, s.dbf, true)),
         Switch::SelMb0 => crate::quiet_effect(with_dbf(s, false)),
         Switch::SelMb1 => crate::quiet_effect(with_dbf(s, true)),
-        Switch::SelRb0 => crate::quiet_effect(s.with_psw(s.psw / 32 * 32 + 0 * 16 + s.psw % 16)),
-        Switch::SelRb1 => crate::quiet_effect(s.with_psw(s.psw / 32 * 32 + 1 * 16 + s.psw % 16)),
+        Switch::SelRb0 => crate::quiet_effect(s.with_psw(s.psw / 32 * 32 + s.psw % 16)),
+        Switch::SelRb1 => crate::quiet_effect(s.with_psw(s.psw / 32 * 32 + 16 + s.psw % 16)),
         Switch::EnTcnti => crate::quiet_effect(enable_timer(true, s)),
         Switch::DisTcnti => crate::quiet_effect(enable_timer(false, s)),
         Switch::StopTcnt => crate::quiet_effect(s.with_counting(Counting::Stopped, s.divider)),

@@ -1,5 +1,6 @@
 -- `effects::control::switch` meets its contract.
 -- Assumes nothing.
+use native.Mathlib.Nat.{add-zero}
 use borrow.Author.Needs.{needs}
 use Rattle.effects.proofs.control.switch.Statement.{statement}
 use Rattle.effects.proofs.control.switch.Tie as tie
@@ -26,11 +27,8 @@ switch-spec =
     (λ c. search needs)
     (λ c. search needs)
     (λ c. search needs)
-    (λ c. search needs)
-    (λ c. search needs)
     (λ c κs. search needs)
     (λ c κs. search needs)
-    (λ c. search needs)
     (λ c. search needs)
     (λ c. search needs)
     (λ c. search needs)
@@ -57,7 +55,7 @@ switch-spec =
     (λ c. simp (c .before .before .enum-told3 .given .1, c .before .with-flags .ensures, c .quiet-effect3 .ensures))
     (λ c. simp (c .before .before .enum-told4 .given .1, c .before .with-dbf .ensures, c .quiet-effect4 .ensures))
     (λ c. simp (c .before .before .enum-told5 .given .1, c .before .with-dbf2 .ensures, c .quiet-effect5 .ensures))
-    (λ c. simp (c .before .before .before .before .enum-told6 .given .1, c .before .with-psw .ensures, c .quiet-effect6 .ensures))
+    (λ c. simp (c .before .before .before .before .enum-told6 .given .1, c .before .with-psw .ensures, c .quiet-effect6 .ensures, add-zero))
     (λ c. simp (c .before .before .before .before .enum-told7 .given .1, c .before .with-psw2 .ensures, c .quiet-effect7 .ensures))
     (λ c. simp (c .before .before .enum-told8 .given .1, c .before .enable-timer .ensures, c .quiet-effect8 .ensures))
     (λ c. simp (c .before .before .enum-told9 .given .1, c .before .enable-timer2 .ensures, c .quiet-effect9 .ensures))
