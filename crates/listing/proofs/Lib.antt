@@ -1,0 +1,5 @@
+pub mod Drafts
+pub mod Once
+pub mod Short
+pub mod Texts
+pub mod Wholes

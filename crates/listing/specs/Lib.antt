@@ -1,0 +1,3 @@
+pub mod Draft
+pub mod Listing
+pub mod Text

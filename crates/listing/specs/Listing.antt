@@ -1,0 +1,89 @@
+-- The line of a listing at an address of a program, what the routine answers and leaves in its buffer, and the listing of a whole program.
+-- Assumes nothing.
+use Prim.Native.Nat.{ℕ, zero, suc, _+_, _*_, _%_}
+use mathlib.Core.Bool.{Bool, _&&_}
+use mathlib.Core.List.{List, [], _++_}
+use lib.Dec.{ltb, eqb}
+use lib.ListN.{length, drop}
+use Rattle.isa.specs.Choice.{pick, listed}
+use Rattle.isa.specs.Numbers.{numberOf, Answer, given, refused}
+use Rattle.isa.specs.Reading.{lacks, byteAt}
+use Rattle.isa.specs.Sheet.{entryOf}
+use Rattle.isa.specs.declared.table.Entry.{Entry}
+use Rattle.listing.specs.Text.{lineOne, lineTwo}
+use Rattle.listing.specs.declared.Listed.{Listed}
+use Rattle.listing.specs.declared.Listed.the-variants.{Printed, Unlisted}
+use Rattle.listing.specs.declared.Whole.{Whole}
+use Rattle.listing.specs.declared.Whole.the-variants.{Written, Refused}
+
+-- Two bytes are shown: the code has two, it does not stand "at 7FF or FFF", and it does not lack its second byte.
+abbrev pub twoAt : List ℕ → ℕ → Entry → Bool
+twoAt program a e = eqb (e .bytes) 2 && (ltb (a % 2048) 2047 && ltb (a + 1) (length program))
+
+-- How many bytes of the program the line at an address shows.
+unfoldable pub sizeAt : List ℕ → ℕ → ℕ
+sizeAt program a = pick (twoAt program a (entryOf (byteAt program a))) 2 1
+
+-- "An undefined code is DB. So is a two-byte code that lacks its second byte or stands at 7FF or FFF."
+abbrev pub lineWith : List ℕ → ℕ → ℕ → Entry → List ℕ
+lineWith program a b e =
+    pick (twoAt program a e) (lineTwo (e .kind) a b (byteAt program (a + 1)))
+    (pick (eqb (e .bytes) 1) (lineOne (e .kind) a b) (lineOne 0 a b))
+
+unfoldable pub lineAt : List ℕ → ℕ → List ℕ
+lineAt program a = lineWith program a (byteAt program a) (entryOf (byteAt program a))
+
+-- What a line gives: its length, and how many bytes of the program it shows.
+pub data Shown : Type 0 where
+  shown : ℕ → ℕ → Shown
+
+-- "order 1, 7, 5, and 5 for its first byte only". The buffer has room bytes.
+unfoldable pub listedOf : List ℕ → ℕ → ℕ → Answer Shown
+listedOf program a room =
+    pick (ltb 4096 (length program)) (refused 1)
+    (pick (ltb room 32) (refused 7)
+    (pick (lacks program a) (refused 5) (given (shown (length (lineAt program a)) (sizeAt program a)))))
+
+-- "A refused line changes nothing in its buffer, an accepted one nothing past its LF."
+unfoldable pub lineAfter : List ℕ → ℕ → List ℕ → List ℕ
+lineAfter program a old =
+    pick (ltb 4096 (length program)) old
+    (pick (ltb (length old) 32) old
+    (pick (lacks program a) old (lineAt program a ++ drop (length (lineAt program a)) old)))
+
+-- The number and the values of each of the routine's answers.
+abbrev pub listedAs : Listed → Answer Shown
+listedAs (Printed n size) = given (shown n size)
+listedAs (Unlisted r) = refused (numberOf r)
+
+-- The lines from an address on, at most n of them: one after the other, each after the bytes that the one before shows.
+unfoldable pub linesFrom : ℕ → List ℕ → ℕ → List ℕ
+linesFrom zero program a = []
+linesFrom (suc n) program a = pick (lacks program a) [] (lineAt program a ++ linesFrom n program (a + sizeAt program a))
+
+-- The addresses whose bytes those lines show, in order.
+unfoldable pub shownFrom : ℕ → List ℕ → ℕ → List ℕ
+shownFrom zero program a = []
+shownFrom (suc n) program a =
+    pick (lacks program a) [] (listed (λ k. k) (sizeAt program a) a ++ shownFrom n program (a + sizeAt program a))
+
+-- The listing of a whole program. (A line shows at least one byte, so there are no more lines than bytes.)
+abbrev pub listingOf : List ℕ → List ℕ
+listingOf program = linesFrom (length program) program 0
+
+-- 1, or 7 for a buffer that has less than 32 bytes for each byte of the program; else the listing's length.
+unfoldable pub wholeOf : List ℕ → ℕ → Answer ℕ
+wholeOf program room =
+    pick (ltb 4096 (length program)) (refused 1)
+    (pick (ltb room (32 * length program)) (refused 7)
+    (given (length (listingOf program))))
+
+unfoldable pub wholeAfter : List ℕ → List ℕ → List ℕ
+wholeAfter program old =
+    pick (ltb 4096 (length program)) old
+    (pick (ltb (length old) (32 * length program)) old
+    (listingOf program ++ drop (length (listingOf program)) old))
+
+abbrev pub wholeAs : Whole → Answer ℕ
+wholeAs (Written n) = given n
+wholeAs (Refused r) = refused (numberOf r)
