@@ -6,6 +6,8 @@ all:
 test:
 	bash .ci/run
 list:
-	@rt check list >/dev/null && . tests/kit.sh && program list <"$(firstword $(wildcard $(ROM) $(ROM).bin))"
+	@[ -n "$(ROM)" ] || { echo 'make list ROM=file' >&2; exit 2; }
+	@rt check list | grep '^rt:' >&2
+	@. tests/kit.sh && program list <"$(firstword $(wildcard $(ROM) $(ROM).bin) $(ROM))"
 fmt:
 	rt fmt
