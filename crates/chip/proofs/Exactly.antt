@@ -138,7 +138,7 @@ module _ (program ram : List ℕ) (s : State) (first second : ℕ) where
     pub ram-allowed : ramAllowed (length ram) ≡ true
     pub state-permitted : permitted s ≡ true
 
-  stands : standing (length program) (length ram) s ≡ 0 → Stands
+  pub stands : standing (length program) (length ram) s ≡ 0 → Stands
   unfolding standing pick
   stands e = go (programAllowed (length program)) (ramAllowed (length ram)) (permitted s) refl refl refl e
     where
@@ -149,6 +149,17 @@ module _ (program ram : List ℕ) (s : State) (first second : ℕ) where
       go true false q hp hr hq e = absurd (omega arith)
       go true true false hp hr hq e = absurd (omega arith)
       go true true true hp hr hq e = record { program-allowed = hp; ram-allowed = hr; state-permitted = hq }
+
+  pub admitted-stands : admission (length program) (length ram) s first second ≡ 0 → standing (length program) (length ram) s ≡ 0
+  unfolding admission pick
+  admitted-stands e = go (eqb (standing (length program) (length ram) s) 0) refl e
+    where
+      go :
+          (p : Bool) → eqb (standing (length program) (length ram) s) 0 ≡ p
+          → pick (not p) (standing (length program) (length ram) s) (pick (not (sampleAllowed first && sampleAllowed second)) 6 0) ≡ 0
+          → standing (length program) (length ram) s ≡ 0
+      go true h e = eqb-true _ _ h
+      go false h e = e
 
   -- And 6.
   admission-gives : (n : ℕ) → admission (length program) (length ram) s first second ≡ n → (n ≡ 0 → ⊥) → G n

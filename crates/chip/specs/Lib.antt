@@ -1,5 +1,7 @@
 pub mod Admission
 pub mod Cases
+pub mod History
 pub mod Refusals
 pub mod Run
 pub mod Step
+pub mod Story

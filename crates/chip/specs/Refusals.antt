@@ -1,6 +1,6 @@
 -- Document 01's table of numbers for a step, row by row and in its order: "Given exactly when".
 -- Assumes nothing.
-use Prim.Native.Nat.{ℕ}
+use Prim.Native.Nat.{ℕ, _≤_}
 use mathlib.Core.Bool.{true, false, _&&_}
 use mathlib.Core.List.{List}
 use mathlib.Core.Path.{_≡_}
@@ -14,8 +14,10 @@ use Rattle.machine.specs.State.{permitted, withPc}
 use Rattle.machine.specs.declared.State.{State}
 use Rattle.effects.specs.Execute.{executed}
 use Rattle.effects.specs.Pins.{low}
+use Rattle.effects.specs.declared.Event.the-variants.{Quiet}
 use Rattle.chip.specs.Admission.{programAllowed, ramAllowed, sampleAllowed, admission}
 use Rattle.chip.specs.Step.{externalCalls, timerCalls, pcAfter}
+use Rattle.chip.specs.declared.Outcome.{Outcome}
 
 -- The step comes to fetch: none of 1, 2, 3, 6, no reset and no interrupt call.
 pub record Fetches (program ram : List ℕ) (s : State) (first second : ℕ) : Type 0 where
@@ -44,3 +46,11 @@ pub data Gives (program ram : List ℕ) (s : State) (first second : ℕ) : ℕ �
   no-table-byte :
       (i : Instruction) (n : ℕ) → Fetches program ram s first second → instructionAt program (s .pc) ≡ given (sized i n)
       → executed i program ram (withPc s (pcAfter n (s .pc))) (s .pc) first second .number ≡ 5 → Gives program ram s first second 5
+
+-- The first demand: every step is answered. It is accepted and takes one cycle or two; or it carries a number of the table, spends no
+-- cycle, gives no event, and returns the state and RAM exactly as they came.
+pub data Answered (program ram : List ℕ) (s : State) (first second : ℕ) (r : Outcome) (left : List ℕ) : Type 0 where
+  taken : r .number ≡ 0 → 1 ≤ r .cycles → r .cycles ≤ 2 → Answered program ram s first second r left
+  unchanged :
+      (n : ℕ) → Gives program ram s first second n → r ≡ record { number = n; state = s; event = Quiet; cycles = 0 } → left ≡ ram
+      → Answered program ram s first second r left

@@ -48,6 +48,10 @@ ended m number =
       ram = m .ram;
     }
 
+-- Where a run stood when it ended.
+abbrev pub standingOf : Ended → Standing
+standingOf e = record { ram = e .ram; state = e .ran .state; used = e .ran .used; cycles = e .ran .cycles; event = e .ran .event }
+
 -- After a step: a refusal ends the run as it stood; else go says the rest, once the step's further samples are passed over.
 abbrev pub turned : Plan → Standing → (ℕ → Standing → Ended) → Ended
 turned p m go = pick (eqb (p .number) 0) (go (pred (p .cycles)) (gone m p)) (ended m (p .number))

@@ -17,9 +17,9 @@ use Rattle.effects.specs.Pins.{high, low}
 use Rattle.effects.specs.Psw.{bitC, bitF0}
 use Rattle.effects.specs.declared.Effect.{Effect}
 
--- An address in the 256-byte page of another.
+-- The address in the 256-byte page of another that has these low 8 bits.
 abbrev pub inPage : ℕ → ℕ → ℕ
-inPage of d = of / 256 * 256 + d
+inPage of d = of / 256 * 256 + d % 256
 
 -- "Conditional jumps, JMPP and MOVP use the 256-byte page of their first byte."
 abbrev pub branchTarget : ℕ → ℕ → ℕ

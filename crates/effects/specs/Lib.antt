@@ -7,4 +7,5 @@ pub mod Moves
 pub mod Pins
 pub mod Ports
 pub mod Psw
+pub mod Setting
 pub mod Stack

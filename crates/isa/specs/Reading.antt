@@ -1,6 +1,6 @@
 -- The reader: what stands at an address of a program.
 -- Assumes nothing.
-use Prim.Native.Nat.{ℕ, _+_, _*_, _/_, _%_}
+use Prim.Native.Nat.{ℕ, _+_, _*_, _/_, _%_, _<_}
 use mathlib.Core.Bool.{Bool}
 use mathlib.Core.List.{List}
 use lib.Dec.{eqb, leb, ltb}
@@ -26,6 +26,10 @@ lacks program a = leb (length program) a
 
 abbrev pub byteAt : List ℕ → ℕ → ℕ
 byteAt program a = getD program a 0
+
+-- Each of a list's numbers is a byte.
+abbrev pub Bytes : List ℕ → Type 0
+Bytes bytes = (k : ℕ) → byteAt bytes k < 256
 
 -- The instruction whose first byte, at the address a, is b, with its length; or 4, or 5 for a second byte.
 -- "A second byte is at the next PC, which wraps as in a step."

@@ -8,7 +8,8 @@ use native.Mathlib.Omega.{arith}
 use Rattle.isa.specs.Numbers.{Answer, given, refused}
 use Rattle.isa.proofs.Once.{one-number}
 use Rattle.isa.specs.declared.Instruction.{Instruction}
-use Rattle.writer.specs.Standing.{Bytes, BytesIn}
+use Rattle.isa.specs.Reading.{Bytes}
+use Rattle.writer.specs.Standing.{BytesIn}
 use Rattle.writer.specs.Writing.{Writes, writtenAs, holds}
 use Rattle.writer.specs.declared.Written.{Written}
 use Rattle.writer.specs.declared.Written.the-variants.{One, Two, Unwritten}

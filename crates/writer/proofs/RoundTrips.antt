@@ -11,10 +11,10 @@ use borrow.Author.Tests.{le-ltb}
 use Rattle.isa.specs.Choice.{pick}
 use Rattle.isa.specs.Numbers.{Answer, given, refused}
 use Rattle.isa.specs.Sheet.{entryOf, instructionOf}
-use Rattle.isa.specs.Reading.{Sized, sized, readOf, instructionAt, decodedAt, nextPc, lacks, byteAt}
+use Rattle.isa.specs.Reading.{Sized, sized, readOf, instructionAt, decodedAt, nextPc, lacks, byteAt, Bytes}
 use Rattle.isa.specs.declared.Instruction.{Instruction}
 use Rattle.isa.proofs.Finding.{Found, alone, paired, found, read-there}
-use Rattle.writer.specs.Standing.{Bytes, BytesIn, StandsAt, Stands}
+use Rattle.writer.specs.Standing.{BytesIn, StandsAt, Stands}
 use Rattle.writer.specs.Writing.{Writes, holds}
 use Rattle.writer.proofs.Back.{bytesBack, bytes-back, holds-back}
 

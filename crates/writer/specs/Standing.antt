@@ -1,15 +1,11 @@
 -- The words of the round trips.
 -- Assumes nothing.
-use Prim.Native.Nat.{ℕ, _<_}
+use Prim.Native.Nat.{ℕ}
 use mathlib.Core.Path.{_≡_}
 use mathlib.Core.Bool.{false}
 use mathlib.Core.List.{List, [], _∷_}
 use Rattle.isa.specs.Numbers.{Answer, given, refused}
-use Rattle.isa.specs.Reading.{nextPc, lacks, byteAt}
-
--- A list of bytes.
-abbrev pub Bytes : List ℕ → Type 0
-Bytes program = (k : ℕ) → byteAt program k < 256
+use Rattle.isa.specs.Reading.{nextPc, lacks, byteAt, Bytes}
 
 -- The bytes stand in the program at the address a and at the PCs after it.
 abbrev pub StandsAt : List ℕ → ℕ → List ℕ → Type 0

@@ -1,5 +1,8 @@
 -- `listing::put_letter` meets its contract.
 -- Assumes nothing.
+use Prim.Native.Nat.{_%_}
+use mathlib.Core.Path.{_≡_}
+use native.Mathlib.Omega.{arith}
 use Rattle.isa.specs.Choice.{pick}
 use borrow.Author.Needs.{needs}
 use borrow.Author.Tests.{ne-eqb}
@@ -29,7 +32,9 @@ returns-5 c = rw (c .before .match .keys5) (c .put-address .ensures)
 
 returns-6 : tie.Need-returns-6
 unfolding expand pick
-returns-6 c = rw (c .before .match .keys6) (c .put-address2 .ensures)
+returns-6 c =
+    let byte : c .before .before .args .d % 256 ≡ c .before .before .args .d = omega arith in
+    rw (c .before .match .keys6, byte) (c .put-address2 .ensures)
 
 returns-7 : tie.Need-returns-7
 unfolding expand pick

@@ -1,0 +1,265 @@
+-- The count in every cycle of a history.
+-- Assumes nothing.
+use Prim.Native.Nat.{ℕ, pred, _+_, _%_, _≤_, _<_}
+use mathlib.Core.Bool.{Bool, true, false, false≢true}
+use mathlib.Core.List.{List}
+use mathlib.Core.Path.{_≡_, refl, sym, ap, _∙_, subst}
+use native.Mathlib.Omega.{arith}
+use lib.Dec.{eqb, leb}
+use borrow.Author.Tests.{eqb-true, eqb-false, eq-eqb, not-true, leb-true, leb-false}
+use Rattle.isa.specs.Choice.{pick}
+use Rattle.isa.specs.Numbers.{Answer, given, refused}
+use Rattle.isa.specs.Reading.{Sized, sized, instructionAt}
+use Rattle.isa.specs.declared.Instruction.{Instruction}
+use Rattle.isa.proofs.Finding.{refused-some}
+use Rattle.machine.specs.Counting.{counted}
+use Rattle.machine.specs.State.{countOf, withPc}
+use Rattle.machine.specs.declared.Count.{Count}
+use Rattle.machine.specs.declared.Counting.{Counting}
+use Rattle.machine.specs.declared.Counting.the-variants.{Timer}
+use Rattle.machine.specs.declared.State.{State}
+use Rattle.machine.proofs.Timing.{At, one-more}
+use Rattle.effects.specs.Setting.{LeavesCounter, Setting, settingOf}
+use Rattle.effects.specs.Stack.{pushed}
+use Rattle.effects.specs.declared.Effect.{Effect}
+use Rattle.effects.proofs.Keeping.{Keeps, keeps}
+use Rattle.chip.specs.History.{Cycle, afterwards, firstCycle, secondCycle, courseAt, planAt, after, Steps, none, more, cycle, Undisturbed, AllUndisturbed, JustStarted}
+use Rattle.chip.specs.Run.{Standing}
+use Rattle.chip.specs.Step.{declined, accepted, called, withoutRequest, pcAfter, done, carriedBy, carried, course, ticked, settled, planBy}
+use Rattle.chip.specs.declared.Course.{Course}
+use Rattle.chip.specs.declared.Plan.{Plan}
+use Rattle.chip.proofs.Choices.{either}
+use Rattle.chip.proofs.Lasting.{plan-busy}
+
+-- ---- what an undisturbed step does before its cycles are counted leaves the counter alone
+record Still (s : State) (c : Course) : Type 0 where
+  setting : c .number ≡ 0 → settingOf (c .state) ≡ settingOf s
+  counts : c .number ≡ 0 → c .fresh ≡ false
+
+declined-still : (s : State) (n : ℕ) (t : State) → (n ≡ 0 → ⊥) → Still s (declined n t)
+unfolding declined
+declined-still s n t h = record { setting = λ z. absurd (h z); counts = λ z. absurd (h z) }
+
+accepted-still : (s : State) (e : Effect) (cycles : ℕ) → Keeps s e → Still s (accepted e cycles)
+unfolding accepted
+accepted-still s e cycles k = record { setting = λ z. k .0; counts = λ z. k .1 }
+
+called-keeps : (s : State) (vector : ℕ) → Keeps s (called s vector)
+unfolding called pushed
+called-keeps s vector = (refl, refl)
+
+request-keeps : (s : State) → settingOf (withoutRequest s) ≡ settingOf s
+unfolding withoutRequest
+request-keeps s = refl
+
+done-still : (s : State) (e : Effect) (cycles : ℕ) → Keeps s e → Still s (done e cycles s)
+unfolding done
+done-still s e cycles k =
+    either (Still s) _ _ _ (λ t. accepted-still s e cycles k) (λ t. declined-still s _ s (eqb-false _ _ t))
+
+carried-still :
+    (program ram : List ℕ) (s : State) (first second : ℕ)
+    → ((i : Instruction) (n : ℕ) → instructionAt program (s .pc) ≡ given (sized i n) → LeavesCounter i)
+    → Still s (carried program ram s first second)
+unfolding carried
+carried-still program ram s first second f = go (instructionAt program (s .pc)) refl
+  where
+    go : (a : Answer Sized) → instructionAt program (s .pc) ≡ a → Still s (carriedBy a program ram s first second)
+    go (refused n) e = declined-still s n s (refused-some program (s .pc) n e)
+    go (given (sized i n)) e =
+        done-still s _ _ (keeps i program ram (withPc s (pcAfter n (s .pc))) (s .pc) first second (f i n e))
+
+course-still :
+    (program ram : List ℕ) (s : State) (first second : ℕ) → Undisturbed program s first → Still s (course program ram s first second)
+unfolding course
+course-still program ram s first second u =
+    either (Still s) _ _ _ (λ t. declined-still s _ s (eqb-false _ _ (not-true _ t)))
+    (λ t. either (Still s) _ _ _ (λ v. absurd (false≢true (sym (u .no-reset) ∙ v)))
+    (λ v. either (Still s) _ _ _ (λ w. accepted-still s _ 2 (called-keeps s 3))
+    (λ w. either (Still s) _ _ _
+    (λ x. accepted-still s _ 2 (called-keeps (withoutRequest s) 7 .0 ∙ request-keeps s, called-keeps (withoutRequest s) 7 .1))
+    (λ x. carried-still program ram s first second (u .none-of-four w x)))))
+
+-- ---- an accepted step is its course, and then its cycles counted
+record Takes (c : Course) (p : Plan) : Type 0 where
+  takes : p .number ≡ 0 → c .number ≡ 0
+
+module _ (c : Course) (s : State) (first second : ℕ) where
+  pub course-number : planBy c s first second .number ≡ 0 → c .number ≡ 0
+  course-number = walk .takes
+    where
+      walk : Takes c (planBy c s first second)
+      walk = unfold planBy in either (Takes c) _ _ _ (λ t. record { takes = λ z. eqb-true _ _ t }) (λ t. record { takes = λ z. z })
+
+  pub plan-state : c .number ≡ 0 → planBy c s first second .state ≡ settled (c .state) (c .cycles) (c .fresh) first second
+  unfolding planBy pick
+  plan-state h = rw (eq-eqb _ _ h)
+
+  pub plan-cycles : c .number ≡ 0 → planBy c s first second .cycles ≡ c .cycles
+  unfolding planBy pick
+  plan-cycles h = rw (eq-eqb _ _ h)
+
+-- The counter after one counted cycle and after two, and what counting leaves.
+settled-one :
+    (c : Course) (first second : ℕ) → c .fresh ≡ false → c .cycles ≡ 1
+    → countOf (settled (c .state) (c .cycles) (c .fresh) first second) ≡ afterwards (firstCycle c first)
+unfolding settled ticked firstCycle pick
+settled-one c first second f e = rw (f, e)
+
+settled-two :
+    (c : Course) (first second : ℕ) → c .fresh ≡ false → c .cycles ≡ 2
+    → countOf (settled (c .state) (c .cycles) (c .fresh) first second) ≡ afterwards (secondCycle c first second)
+unfolding settled ticked firstCycle secondCycle pick
+settled-two c first second f e = rw (f, e)
+
+settled-counting : (s : State) (cycles : ℕ) (fresh : Bool) (first second : ℕ) → settled s cycles fresh first second .counting ≡ s .counting
+unfolding settled
+settled-counting s cycles fresh first second = refl
+
+settled-timer : (s : State) (cycles : ℕ) (fresh : Bool) (first second : ℕ) → settled s cycles fresh first second .interrupts .timer ≡ s .interrupts .timer
+unfolding settled
+settled-timer s cycles fresh first second = refl
+
+-- The counter runs as timer, n cycles after the count c.
+pub record Running (c n : ℕ) (s : State) : Type 0 where
+  pub counting : s .counting ≡ Timer
+  pub at : At c n (countOf s)
+
+-- A cycle in which it does: cycle i takes it from i - 1 cycles to i.
+pub record Counts (c i : ℕ) (x : Cycle) : Type 0 where
+  pub counting : x .counting ≡ Timer
+  pub from : At c (pred i) (x .before)
+  pub to : At c i (afterwards x)
+
+-- A cycle that the counter enters as timer.
+counts-one : (c n : ℕ) (x : Cycle) → x .counting ≡ Timer → At c n (x .before) → Counts c (n + 1) x
+counts-one c n x e h =
+    let p : pred (n + 1) ≡ n = omega arith in
+    record {
+      counting = e;
+      from = subst (λ (j : ℕ). At c j (x .before)) (sym p) h;
+      to =
+          subst (λ (m : Counting). At c (n + 1) (counted m (x .before) (x .t1) (x .enabled))) (sym e)
+          (one-more c n (x .before) (x .t1) (x .enabled) h);
+    }
+
+module _ (program : List ℕ) (k : Standing) (first second : ℕ) (a : planAt program k first second .number ≡ 0) where
+  -- An accepted step takes one cycle or two.
+  pub one-or-two : (1 ≤ planAt program k first second .cycles) × (planAt program k first second .cycles ≤ 2)
+  one-or-two =
+      (plan-busy program (k .ram) (k .state) first second .some a, plan-busy program (k .ram) (k .state) first second .few a)
+
+  pub accepted-course : courseAt program k first second .number ≡ 0
+  accepted-course = course-number (courseAt program k first second) (k .state) first second a
+
+  pub is-settled :
+      after program k first second .state
+      ≡ settled (courseAt program k first second .state) (courseAt program k first second .cycles) (courseAt program k first second .fresh) first second
+  is-settled = plan-state (courseAt program k first second) (k .state) first second accepted-course
+
+  pub same-cycles : courseAt program k first second .cycles ≡ planAt program k first second .cycles
+  same-cycles = sym (plan-cycles (courseAt program k first second) (k .state) first second accepted-course)
+
+  pub ends-enabled : after program k first second .state .interrupts .timer ≡ courseAt program k first second .state .interrupts .timer
+  ends-enabled = ap (λ (s : State). s .interrupts .timer) is-settled ∙ settled-timer (courseAt program k first second .state) _ _ first second
+
+  module _ (u : Undisturbed program (k .state) first) where
+    still : Still (k .state) (courseAt program k first second)
+    still = course-still program (k .ram) (k .state) first second u
+
+    pub ends-first :
+        planAt program k first second .cycles ≡ 1
+        → countOf (after program k first second .state) ≡ afterwards (firstCycle (courseAt program k first second) first)
+    ends-first e =
+        ap countOf is-settled
+        ∙ settled-one (courseAt program k first second) first second (still .counts accepted-course) (same-cycles ∙ e)
+
+    pub ends-second :
+        planAt program k first second .cycles ≡ 2
+        → countOf (after program k first second .state) ≡ afterwards (secondCycle (courseAt program k first second) first second)
+    ends-second e =
+        ap countOf is-settled
+        ∙ settled-two (courseAt program k first second) first second (still .counts accepted-course) (same-cycles ∙ e)
+
+    -- ---- the count in the cycles of one step
+    module _ (c n : ℕ) (h : Running c n (k .state)) where
+      course-counting : courseAt program k first second .state .counting ≡ Timer
+      course-counting = ap (λ (x : Setting). x .counting) (still .setting accepted-course) ∙ h .counting
+
+      first-before : At c n (firstCycle (courseAt program k first second) first .before)
+      unfolding firstCycle
+      first-before =
+          record {
+            t = ap (λ (x : Setting). x .t) (still .setting accepted-course) ∙ h .at .t;
+            divider = ap (λ (x : Setting). x .divider) (still .setting accepted-course) ∙ h .at .divider;
+          }
+
+      pub first-counts : Counts c (n + 1) (firstCycle (courseAt program k first second) first)
+      unfolding firstCycle
+      first-counts = counts-one c n (firstCycle (courseAt program k first second) first) course-counting first-before
+
+      pub second-counts : Counts c (n + 1 + 1) (secondCycle (courseAt program k first second) first second)
+      unfolding secondCycle
+      second-counts = counts-one c (n + 1) (secondCycle (courseAt program k first second) first second) course-counting (first-counts .to)
+
+      step-at : At c (n + planAt program k first second .cycles) (countOf (after program k first second .state))
+      step-at = go (eqb (planAt program k first second .cycles) 2) refl
+        where
+          go :
+              (b : Bool) → eqb (planAt program k first second .cycles) 2 ≡ b
+              → At c (n + planAt program k first second .cycles) (countOf (after program k first second .state))
+          go true e =
+              let w : planAt program k first second .cycles ≡ 2 = eqb-true _ _ e in
+              let l : n + 1 + 1 ≡ n + planAt program k first second .cycles = omega arith in
+              subst (λ (x : Count). At c (n + planAt program k first second .cycles) x) (sym (ends-second w))
+              (subst (λ (i : ℕ). At c i (afterwards (secondCycle (courseAt program k first second) first second))) l (second-counts .to))
+          go false e =
+              let d : planAt program k first second .cycles ≡ 2 → ⊥ = eqb-false _ _ e in
+              let o = one-or-two in
+              let w : planAt program k first second .cycles ≡ 1 = omega (arith, o .0, o .1, d) in
+              let l : n + 1 ≡ n + planAt program k first second .cycles = omega arith in
+              subst (λ (x : Count). At c (n + planAt program k first second .cycles) x) (sym (ends-first w))
+              (subst (λ (i : ℕ). At c i (afterwards (firstCycle (courseAt program k first second) first))) l (first-counts .to))
+
+      pub step-running : Running c (n + planAt program k first second .cycles) (after program k first second .state)
+      step-running =
+          record {
+            counting = ap (λ (s : State). s .counting) is-settled ∙ settled-counting (courseAt program k first second .state) _ _ first second ∙ course-counting;
+            at = step-at;
+          }
+
+-- The counter just started, no cycle counted yet.
+pub at-start : (c : ℕ) (s : State) → c < 256 → JustStarted c s → Running c 0 s
+at-start c s l h = record { counting = h .counting; at = record { t = h .t ∙ small c l; divider = h .divider } }
+  where
+    small : (c : ℕ) → c < 256 → c ≡ (c + 0) % 256
+    small c l = omega arith
+
+-- After a history of n cycles the counter holds c + n / 32 modulo 256.
+pub count-law :
+    {program ram : List ℕ} {s : State} {k : Standing} (c : ℕ) (h : Steps program ram s k) → AllUndisturbed h → Running c 0 s
+    → Running c (k .cycles) (k .state)
+count-law c none u r = r
+count-law {program} c (more {k = k} first second h a) u r =
+    step-running program k first second a (u .1) c (k .cycles) (count-law c h (u .0) r)
+
+-- And in each cycle of it, inside a step too.
+choose : (c i : ℕ) (b : Bool) (x y : Cycle) → (b ≡ true → Counts c i x) → (b ≡ false → Counts c i y) → Counts c i (pick b x y)
+choose c i b x y f g = either (Counts c i) b x y f g
+
+pub cycle-law :
+    {program ram : List ℕ} {s : State} {k : Standing} (c : ℕ) (h : Steps program ram s k) → AllUndisturbed h → Running c 0 s
+    → (i : ℕ) → 1 ≤ i → i ≤ k .cycles → Counts c i (cycle h i)
+unfolding cycle
+cycle-law c none u r i l g = absurd (omega arith)
+cycle-law {program} c (more {k = k} first second h a) u r i l g =
+    let o = one-or-two program k first second a in
+    let t = count-law c h (u .0) r in
+    choose c i (leb i (k .cycles)) _ _ (λ e. cycle-law c h (u .0) r i l (leb-true i (k .cycles) e))
+    (λ e. choose c i (eqb i (k .cycles + 1)) _ _
+    (λ f. subst (λ (j : ℕ). Counts c j (firstCycle (courseAt program k first second) first)) (sym (eqb-true i (k .cycles + 1) f)) (first-counts program k first second a (u .1) c (k .cycles) t))
+    (λ f.
+    let d : i ≡ k .cycles + 1 → ⊥ = eqb-false i (k .cycles + 1) f in
+    let b : k .cycles < i = leb-false i (k .cycles) e in
+    let w : k .cycles + 1 + 1 ≡ i = omega (arith, o .0, o .1) in
+    subst (λ (j : ℕ). Counts c j (secondCycle (courseAt program k first second) first second)) w (second-counts program k first second a (u .1) c (k .cycles) t)))

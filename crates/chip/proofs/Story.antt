@@ -1,0 +1,24 @@
+-- The owner's story, by computation. STRT T is carried out in cycle 7, so the overflow is in cycle 7 + 32 = 39, the first cycle of a
+-- jump. Its request is stored; the next step is the call to location 7, complete in cycle 42, 3 cycles after the overflow.
+-- Assumes nothing.
+use mathlib.Core.Bool.{true, false}
+use mathlib.Core.List.{[], _∷_, map}
+use mathlib.Core.Path.{_≡_, refl}
+use Rattle.isa.specs.Choice.{pick}
+use Rattle.isa.specs.Reading.{instructionAt, decodedAt}
+use Rattle.isa.specs.Sheet.{kindOf, entryOf}
+use Rattle.effects.specs.Execute.{executed}
+use Rattle.effects.specs.Stack.{pushed}
+use Rattle.chip.specs.Admission.{standing, admission}
+use Rattle.chip.specs.Run.{runOver, runOf}
+use Rattle.chip.specs.Step.{declined, accepted, resetState, called, withoutRequest, done, carried, course, ticked, settled, planBy, written}
+use Rattle.chip.specs.Story.{sight, waited}
+
+pub story :
+    map (λ n. sight (waited n)) (39 ∷ 41 ∷ 43 ∷ [])
+    ≡ record { number = 0; cycles = 38; pc = 0x00E; t = 0xFF; tf = false; request = false; service = false }
+    ∷ record { number = 0; cycles = 40; pc = 0x00E; t = 0; tf = true; request = true; service = false }
+    ∷ record { number = 0; cycles = 42; pc = 0x007; t = 0; tf = true; request = false; service = true }
+    ∷ []
+unfolding runOf runOver planBy settled ticked course carried done accepted declined resetState called withoutRequest written admission standing executed pushed instructionAt decodedAt entryOf kindOf pick
+story = refl

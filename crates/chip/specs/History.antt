@@ -1,0 +1,187 @@
+-- What the demands speak of: the cycles of a step one by one, steps one after the other, and the steps of a run.
+-- Assumes nothing.
+use Prim.Native.Nat.{ℕ, _+_, _≤_, _<_}
+use mathlib.Core.Bool.{Bool, true, false, _||_}
+use mathlib.Core.List.{List}
+use mathlib.Core.Path.{_≡_}
+use lib.Dec.{eqb, leb}
+use lib.ListN.{length, getD}
+use Rattle.isa.specs.Choice.{pick}
+use Rattle.isa.specs.Numbers.{given}
+use Rattle.isa.specs.Reading.{sized, instructionAt}
+use Rattle.isa.specs.declared.Instruction.{Instruction}
+use Rattle.machine.specs.Counting.{counted}
+use Rattle.machine.specs.State.{countOf}
+use Rattle.machine.specs.declared.Count.{Count}
+use Rattle.machine.specs.declared.Counting.{Counting}
+use Rattle.machine.specs.declared.Counting.the-variants.{Timer}
+use Rattle.machine.specs.declared.State.{State}
+use Rattle.effects.specs.Pins.{high, low}
+use Rattle.effects.specs.Setting.{LeavesCounter}
+use Rattle.chip.specs.Admission.{standing}
+use Rattle.chip.specs.Run.{Standing, Ended, begun, gone, ended}
+use Rattle.chip.specs.Step.{externalCalls, timerCalls, accepted, called, withoutRequest, course, planOf}
+use Rattle.chip.specs.declared.Course.{Course}
+use Rattle.chip.specs.declared.Plan.{Plan}
+
+-- ---- one cycle
+-- How the counter counts in it, what the counter holds before it, the step's effects being done, T1's level in it, and whether the
+-- timer interrupt is enabled in it.
+pub record Cycle : Type 0 where
+  pub counting : Counting
+  pub before : Count
+  pub t1 : Bool
+  pub enabled : Bool
+
+-- What the counter holds after it.
+abbrev pub afterwards : Cycle → Count
+afterwards x = counted (x .counting) (x .before) (x .t1) (x .enabled)
+
+-- T goes from FF to 00 in it.
+pub record Overflow (x : Cycle) : Type 0 where
+  pub from : x .before .t ≡ 255
+  pub to : afterwards x .t ≡ 0
+
+-- An overflow that sets TF, and stores a request exactly if the timer interrupt is enabled in that cycle.
+pub record Overflowing (x : Cycle) : Type 0 where
+  pub is : Overflow x
+  pub tf : afterwards x .tf ≡ true
+  pub request : afterwards x .request ≡ (x .before .request || x .enabled)
+
+-- No overflow, and TF and the request are left alone.
+pub record Calm (x : Cycle) : Type 0 where
+  pub not : Overflow x → ⊥
+  pub tf : afterwards x .tf ≡ x .before .tf
+  pub request : afterwards x .request ≡ x .before .request
+
+-- The cycles of a step that does c before its cycles are counted.
+unfoldable pub firstCycle : Course → ℕ → Cycle
+firstCycle c first =
+    record {
+      counting = c .state .counting;
+      before = countOf (c .state);
+      t1 = high 26 first;
+      enabled = c .state .interrupts .timer;
+    }
+
+unfoldable pub secondCycle : Course → ℕ → ℕ → Cycle
+secondCycle c first second =
+    record {
+      counting = c .state .counting;
+      before = afterwards (firstCycle c first);
+      t1 = high 26 second;
+      enabled = c .state .interrupts .timer;
+    }
+
+-- ---- steps one after the other
+-- The step that comes where a run stands, before its cycles are counted, and whole.
+abbrev pub courseAt : List ℕ → Standing → ℕ → ℕ → Course
+courseAt program k first second = course program (k .ram) (k .state) first second
+
+abbrev pub planAt : List ℕ → Standing → ℕ → ℕ → Plan
+planAt program k first second = planOf program (k .ram) (k .state) first second
+
+-- Where it leads.
+abbrev pub after : List ℕ → Standing → ℕ → ℕ → Standing
+after program k first second = gone k (planAt program k first second)
+
+-- A history: accepted steps, one after the other, from a RAM and a state.
+pub data Steps (program ram : List ℕ) (s : State) : Standing → Type 0 where
+  none : Steps program ram s (begun ram s)
+  more :
+      {k : Standing} (first second : ℕ) → Steps program ram s k → planAt program k first second .number ≡ 0
+      → Steps program ram s (after program k first second)
+
+-- Cycle i of a history, from 1 to its number of cycles.
+unfoldable pub cycle : {program ram : List ℕ} {s : State} {k : Standing} → Steps program ram s k → ℕ → Cycle
+cycle {s = s} none i = record { counting = s .counting; before = countOf s; t1 = false; enabled = false }
+cycle {program} (more {k = k} first second h a) i =
+    pick (leb i (k .cycles)) (cycle h i)
+    (pick (eqb i (k .cycles + 1)) (firstCycle (courseAt program k first second) first)
+    (secondCycle (courseAt program k first second) first second))
+
+-- ---- what the owner asks of each step of a history, beside that it is accepted
+-- "No reset is seen and none of STRT T, STRT CNT, STOP TCNT, MOV T,A is carried out": an interrupt call carries out none.
+pub record Undisturbed (program : List ℕ) (s : State) (first : ℕ) : Type 0 where
+  pub no-reset : low 27 first ≡ false
+  pub none-of-four :
+      externalCalls s first ≡ false → timerCalls s ≡ false → (i : Instruction) (n : ℕ)
+      → instructionAt program (s .pc) ≡ given (sized i n) → LeavesCounter i
+
+-- Each step of the history is so.
+abbrev pub AllUndisturbed : {program ram : List ℕ} {s : State} {k : Standing} → Steps program ram s k → Type 0
+AllUndisturbed none = Unit {0}
+AllUndisturbed {program} (more {k = k} first second h a) = AllUndisturbed h × Undisturbed program (k .state) first
+
+-- Just after STRT T, the counter holding c.
+pub record JustStarted (c : ℕ) (s : State) : Type 0 where
+  pub counting : s .counting ≡ Timer
+  pub t : s .t ≡ c
+  pub divider : s .divider ≡ 0
+
+-- The step is the call to location 7: PC is 7, the request is cleared, the interrupt is in service, and it takes two cycles. What it
+-- pushes is in `call`.
+pub record CallTo7 (program : List ℕ) (k : Standing) (first second : ℕ) : Type 0 where
+  pub call : courseAt program k first second ≡ accepted (called (withoutRequest (k .state)) 7) 2
+  pub pc : after program k first second .state .pc ≡ 7
+  pub request : after program k first second .state .request ≡ false
+  pub service : after program k first second .state .interrupts .service ≡ true
+  pub cycles : planAt program k first second .cycles ≡ 2
+
+-- ---- histories and what they begin with
+pub record History (program ram : List ℕ) (s : State) : Type 0 where
+  pub end : Standing
+  pub steps : Steps program ram s end
+
+module _ {program ram : List ℕ} {s : State} where
+  -- The history with one accepted step more.
+  abbrev pub longer :
+      (p : History program ram s) (first second : ℕ) → planAt program (p .end) first second .number ≡ 0 → History program ram s
+  longer p first second a = record { end = after program (p .end) first second; steps = more first second (p .steps) a }
+
+  -- q begins with p.
+  pub data Begins (p : History program ram s) : History program ram s → Type 0 where
+    whole : Begins p p
+    then :
+        {q : History program ram s} (first second : ℕ) (a : planAt program (q .end) first second .number ≡ 0) → Begins p q
+        → Begins p (longer q first second a)
+
+  -- The step of q in which cycle i lies.
+  pub record StepWith (i : ℕ) (q : History program ram s) : Type 0 where
+    pub before : History program ram s
+    pub first : ℕ
+    pub second : ℕ
+    pub fine : planAt program (before .end) first second .number ≡ 0
+    pub starts : before .end .cycles < i
+    pub ends : i ≤ before .end .cycles + planAt program (before .end) first second .cycles
+    pub begins : Begins (longer before first second fine) q
+
+-- ---- the history of a run
+-- Each step has read the samples of its cycle and of the next, and both are there.
+abbrev pub Reads : {program ram : List ℕ} {s : State} {k : Standing} → List ℕ → Steps program ram s k → Type 0
+Reads samples none = Unit {0}
+Reads samples (more {k = k} first second h a) =
+    Reads samples h × (first ≡ getD samples (k .cycles) 0) × (second ≡ getD samples (k .cycles + 1) 0)
+    × (k .cycles + 2 ≤ length samples)
+
+-- What a run over samples did, refused or not: it ended where its history leads, one sample used a cycle. There fewer than two samples
+-- are left, or the next step is refused with the run's number.
+pub record HistoryOf (program ram : List ℕ) (s : State) (samples : List ℕ) (e : Ended) : Type 0 where
+  pub end : Standing
+  pub steps : Steps program ram s end
+  pub reads : Reads samples steps
+  pub is : e ≡ ended end (e .ran .number)
+  pub used : end .used ≡ end .cycles
+  pub enough : end .cycles ≤ length samples
+  pub short : e .ran .number ≡ 0 → length samples ≤ end .cycles + 1
+  pub stopped :
+      (e .ran .number ≡ 0 → ⊥)
+      → planAt program end (getD samples (end .cycles) 0) (getD samples (end .cycles + 1) 0) .number ≡ e .ran .number
+
+-- The first demand, of a run. Refused by 1, 2 or 3 it does nothing; else it is accepted steps and then, where it is refused, a step that
+-- is refused with the run's number: "steps done before a refusal stand".
+pub data RunAnswered (program ram : List ℕ) (s : State) (samples : List ℕ) (e : Ended) : Type 0 where
+  nothing-done :
+      (standing (length program) (length ram) s ≡ 0 → ⊥) → e ≡ ended (begun ram s) (standing (length program) (length ram) s)
+      → RunAnswered program ram s samples e
+  steps-done : standing (length program) (length ram) s ≡ 0 → HistoryOf program ram s samples e → RunAnswered program ram s samples e
