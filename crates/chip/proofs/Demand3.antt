@@ -9,17 +9,17 @@ use Prim.Native.Nat.{ℕ, _+_, _-_, _*_, _/_, _%_, _≤_, _<_}
 use mathlib.Core.Bool.{true, false}
 use mathlib.Core.List.{List}
 use mathlib.Core.Logic.{_⊎_}
-use mathlib.Core.Path.{_≡_, refl, ap, _∙_}
+use mathlib.Core.Path.{_≡_, refl, sym, ap, _∙_}
 use native.Mathlib.Omega.{arith}
 use lib.ListN.{length, getD, drop}
 use Rattle.machine.specs.declared.State.{State}
 use Rattle.effects.specs.Pins.{low}
 use Rattle.chip.specs.Admission.{standing}
 use Rattle.chip.specs.History.{Cycle, afterwards, Overflowing, Calm, planAt, cycle, Undisturbed, AllUndisturbed, JustStarted, CallTo7, History, longer, StepWith, Reads}
-use Rattle.chip.specs.Run.{runOver, runOf}
+use Rattle.chip.specs.Run.{Ended, runOver, runOf}
 use Rattle.chip.proofs.Answering.{call-law, within-3}
 use Rattle.chip.proofs.Cycles.{at-start, count-law, cycle-law}
-use Rattle.chip.proofs.Linking.{over-through, run-over}
+use Rattle.chip.proofs.Linking.{over-through, run-over, run-history}
 use Rattle.chip.proofs.Overflows.{overflow-law, calm-law}
 use Rattle.chip.proofs.Parts.{begins-undisturbed, begins-reads, begins-cycle, step-with}
 
@@ -30,6 +30,15 @@ module _ (program ram : List ℕ) (s : State) (samples : List ℕ) (admitted : s
       (p : History program ram s) → Reads samples (p .steps)
       → runOf program ram s samples ≡ runOver program (drop (p .end .cycles) samples) 0 (p .end)
   run-through p reads = run-over program ram s samples admitted ∙ over-through samples (p .steps) reads
+
+  -- Of the whole run, where nothing disturbs it to its end: T and the cycles that it returns.
+  pub run-count :
+      AllUndisturbed (run-history program ram s samples admitted .steps)
+      → runOf program ram s samples .ran .state .t ≡ (c + runOf program ram s samples .ran .cycles / 32) % 256
+  run-count u =
+      let h = run-history program ram s samples admitted in
+      ap (λ (e : Ended). e .ran .state .t) (h .is) ∙ count-law c (h .steps) u (at-start c s small started) .at .t
+      ∙ ap (λ (e : Ended). (c + e .ran .cycles / 32) % 256) (sym (h .is))
 
   module _ (p : History program ram s) (reads : Reads samples (p .steps)) (undisturbed : AllUndisturbed (p .steps)) where
     -- "After n more cycles the counter holds c plus the whole part of n/32, modulo 256."
