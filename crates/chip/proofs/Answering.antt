@@ -14,7 +14,7 @@ use Rattle.machine.specs.declared.Count.{Count}
 use Rattle.machine.specs.declared.State.{State}
 use Rattle.machine.proofs.Timing.{request-stays}
 use Rattle.effects.specs.Pins.{low}
-use Rattle.effects.specs.Stack.{pushed}
+use Rattle.flow.specs.Stack.{pushed}
 use Rattle.chip.specs.History.{Cycle, afterwards, firstCycle, secondCycle, courseAt, planAt, after, Steps, more, cycle, Undisturbed, AllUndisturbed, CallTo7}
 use Rattle.chip.specs.Run.{Standing}
 use Rattle.chip.specs.Step.{declined, accepted, called, withoutRequest, externalCalls, timerCalls, course, settled, planBy}

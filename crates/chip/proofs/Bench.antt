@@ -5,8 +5,8 @@ use mathlib.Core.Path.{_≡_, refl}
 use Rattle.isa.specs.Choice.{pick}
 use Rattle.isa.specs.Reading.{instructionAt, decodedAt}
 use Rattle.isa.specs.Sheet.{kindOf, entryOf}
-use Rattle.effects.specs.Execute.{executed}
-use Rattle.effects.specs.Stack.{pushed}
+use Rattle.flow.specs.Stack.{pushed}
+use Rattle.execute.specs.Execute.{executed}
 use Rattle.chip.specs.Admission.{standing, admission}
 use Rattle.chip.specs.Cases.{Case, seen, cases}
 use Rattle.chip.specs.Run.{runOver, runOf}

@@ -19,10 +19,10 @@ use Rattle.machine.specs.declared.Counting.{Counting}
 use Rattle.machine.specs.declared.Counting.the-variants.{Timer}
 use Rattle.machine.specs.declared.State.{State}
 use Rattle.machine.proofs.Timing.{At, one-more}
-use Rattle.effects.specs.Setting.{LeavesCounter, Setting, settingOf}
-use Rattle.effects.specs.Stack.{pushed}
 use Rattle.effects.specs.declared.Effect.{Effect}
-use Rattle.effects.proofs.Keeping.{Keeps, keeps}
+use Rattle.flow.specs.Stack.{pushed}
+use Rattle.execute.specs.Setting.{LeavesCounter, Setting, settingOf}
+use Rattle.execute.proofs.Keeping.{Keeps, keeps}
 use Rattle.chip.specs.History.{Cycle, afterwards, firstCycle, secondCycle, courseAt, planAt, after, Steps, none, more, cycle, Undisturbed, AllUndisturbed, JustStarted}
 use Rattle.chip.specs.Run.{Standing}
 use Rattle.chip.specs.Step.{declined, accepted, called, withoutRequest, pcAfter, done, carriedBy, carried, course, ticked, settled, planBy}

@@ -18,13 +18,13 @@ use Rattle.isa.specs.declared.Instruction.{Instruction}
 use Rattle.isa.specs.declared.Instruction.the-variants.{Alu, Accumulator, Djnz, Branch, Jmp, Jmpp, Control, MovA, Mov, MovData, MovAPsw, MovPswA, Movp, Movp3, MovxRead, MovxWrite, Xch, Xchd, Cpl, Clr, Logic, In, Outl, Expander, Dec, Inc, Call, Ret, Retr, MovAT, MovTA, Nop}
 use Rattle.machine.specs.State.{permitted, withPc}
 use Rattle.machine.specs.declared.State.{State}
-use Rattle.effects.specs.Execute.{executed}
 use Rattle.effects.specs.Moves.{quiet}
 use Rattle.effects.specs.Pins.{low}
-use Rattle.effects.specs.Stack.{pushed}
 use Rattle.effects.specs.declared.Effect.{Effect}
 use Rattle.effects.specs.declared.Event.the-variants.{Quiet}
 use Rattle.effects.specs.declared.Write.the-variants.{Nothing}
+use Rattle.flow.specs.Stack.{pushed}
+use Rattle.execute.specs.Execute.{executed}
 use Rattle.chip.specs.Admission.{programAllowed, ramAllowed, sampleAllowed, standing, admission}
 use Rattle.chip.specs.Refusals.{Fetches, Gives, program-length, ram-length, state-outside, sample-bits, no-first-byte, undefined-code, no-second-byte, no-table-byte}
 use Rattle.chip.specs.Step.{externalCalls, timerCalls, pcAfter, resetState, called, withoutRequest, declined, accepted, done, carriedBy, carried, course, planBy, planOf, stepOf, ramAfter, written}

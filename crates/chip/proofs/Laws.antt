@@ -22,7 +22,7 @@ use Rattle.machine.specs.declared.State.{State}
 use Rattle.effects.specs.declared.Effect.{Effect}
 use Rattle.effects.specs.declared.Write.{Write}
 use Rattle.effects.specs.declared.Write.the-variants.{Nothing, Byte, Pair}
-use Rattle.effects.proofs.Within.{Within, WithinSizes, push-within, within}
+use Rattle.execute.proofs.Within.{Within, WithinSizes, push-within, within}
 use Rattle.chip.specs.Run.{Standing, begun, standingOf, runOver}
 use Rattle.chip.specs.History.{Steps, none, more, Reads, HistoryOf}
 use Rattle.chip.specs.Step.{declined, accepted, resetState, called, withoutRequest, pcAfter, done, carriedBy, carried, course, ticked, settled, planBy, planOf, ramAfter, written}

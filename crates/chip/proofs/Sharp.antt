@@ -23,11 +23,11 @@ use Rattle.machine.specs.declared.Count.{Count}
 use Rattle.machine.specs.declared.Counting.the-variants.{Timer}
 use Rattle.machine.specs.declared.State.{State}
 use Rattle.machine.proofs.Timing.{At, one-more, leaves-request}
-use Rattle.effects.specs.Execute.{executed}
-use Rattle.effects.specs.Setting.{LeavesCounter}
-use Rattle.effects.specs.Stack.{pushed}
 use Rattle.effects.specs.declared.Event.the-variants.{Quiet}
 use Rattle.effects.specs.declared.Write.the-variants.{Nothing}
+use Rattle.flow.specs.Stack.{pushed}
+use Rattle.execute.specs.Execute.{executed}
+use Rattle.execute.specs.Setting.{LeavesCounter}
 use Rattle.chip.specs.Admission.{standing, admission}
 use Rattle.chip.specs.Cases.{times, holding, idle, blank}
 use Rattle.chip.specs.History.{planAt, after, none, more, cycle, Undisturbed, AllUndisturbed, JustStarted, CallTo7, History, longer, whole, StepWith, Reads}

@@ -13,7 +13,7 @@ use Rattle.isa.specs.declared.Instruction.the-variants.{Control}
 use Rattle.isa.specs.declared.Switch.the-variants.{StrtT}
 use Rattle.machine.specs.State.{withPc}
 use Rattle.machine.specs.declared.State.{State}
-use Rattle.effects.specs.Execute.{executed}
+use Rattle.execute.specs.Execute.{executed}
 use Rattle.chip.specs.History.{JustStarted}
 use Rattle.chip.specs.Refusals.{Fetches}
 use Rattle.chip.specs.Step.{accepted, pcAfter, done, carried, course, ticked, settled, planBy, planOf}

@@ -7,8 +7,8 @@ use mathlib.Core.Path.{_≡_, refl}
 use Rattle.isa.specs.Choice.{pick}
 use Rattle.isa.specs.Reading.{instructionAt, decodedAt}
 use Rattle.isa.specs.Sheet.{kindOf, entryOf}
-use Rattle.effects.specs.Execute.{executed}
-use Rattle.effects.specs.Stack.{pushed}
+use Rattle.flow.specs.Stack.{pushed}
+use Rattle.execute.specs.Execute.{executed}
 use Rattle.chip.specs.Admission.{standing, admission}
 use Rattle.chip.specs.Run.{runOver, runOf}
 use Rattle.chip.specs.Step.{declined, accepted, resetState, called, withoutRequest, done, carried, course, ticked, settled, planBy, written}

@@ -17,7 +17,7 @@ use Rattle.machine.specs.declared.Counting.{Counting}
 use Rattle.machine.specs.declared.Counting.the-variants.{Timer}
 use Rattle.machine.specs.declared.State.{State}
 use Rattle.effects.specs.Pins.{high, low}
-use Rattle.effects.specs.Setting.{LeavesCounter}
+use Rattle.execute.specs.Setting.{LeavesCounter}
 use Rattle.chip.specs.Admission.{standing}
 use Rattle.chip.specs.Run.{Standing, Ended, begun, gone, ended}
 use Rattle.chip.specs.Step.{externalCalls, timerCalls, accepted, called, withoutRequest, course, planOf}

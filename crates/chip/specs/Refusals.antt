@@ -12,9 +12,9 @@ use Rattle.isa.specs.Sheet.{entryOf}
 use Rattle.isa.specs.declared.Instruction.{Instruction}
 use Rattle.machine.specs.State.{permitted, withPc}
 use Rattle.machine.specs.declared.State.{State}
-use Rattle.effects.specs.Execute.{executed}
 use Rattle.effects.specs.Pins.{low}
 use Rattle.effects.specs.declared.Event.the-variants.{Quiet}
+use Rattle.execute.specs.Execute.{executed}
 use Rattle.chip.specs.Admission.{programAllowed, ramAllowed, sampleAllowed, admission}
 use Rattle.chip.specs.Step.{externalCalls, timerCalls, pcAfter}
 use Rattle.chip.specs.declared.Outcome.{Outcome}

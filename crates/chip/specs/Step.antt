@@ -18,14 +18,14 @@ use Rattle.machine.specs.declared.Counting.the-variants.{Stopped}
 use Rattle.machine.specs.declared.Interrupts.{Interrupts}
 use Rattle.machine.specs.declared.Ports.{Ports}
 use Rattle.machine.specs.declared.State.{State}
-use Rattle.effects.specs.Execute.{executed}
 use Rattle.effects.specs.Moves.{quiet}
 use Rattle.effects.specs.Pins.{high, low}
-use Rattle.effects.specs.Stack.{pushed}
 use Rattle.effects.specs.declared.Effect.{Effect}
 use Rattle.effects.specs.declared.Event.the-variants.{Quiet}
 use Rattle.effects.specs.declared.Write.{Write}
 use Rattle.effects.specs.declared.Write.the-variants.{Nothing, Byte, Pair}
+use Rattle.flow.specs.Stack.{pushed}
+use Rattle.execute.specs.Execute.{executed}
 use Rattle.chip.specs.Admission.{admission}
 use Rattle.chip.specs.declared.Course.{Course}
 use Rattle.chip.specs.declared.Fetch.{Fetch}

@@ -81,7 +81,7 @@ fn call(s: State, vector: u16) -> Effect
         timer: i.timer,
         service: true,
     });
-    effects::stack::push(t, vector)
+    flow::stack::push(t, vector)
 }
 
 fn without_request(s: State) -> State
@@ -121,7 +121,7 @@ fn carry_out(
         return decline(f.number, s);
     }
     let i = isa::decode::made(f.kind, f.code, f.second);
-    let e = effects::execute(i, program, ram, s.with_pc(f.next), s.pc, first, second);
+    let e = execute::execute(i, program, ram, s.with_pc(f.next), s.pc, first, second);
     finish(e, f.cycles, s)
 }
 

@@ -1,11 +1,6 @@
 pub mod Accumulator
-pub mod Control
-pub mod Execute
-pub mod Jumps
 pub mod Memory
 pub mod Moves
 pub mod Pins
 pub mod Ports
 pub mod Psw
-pub mod Setting
-pub mod Stack

@@ -1,20 +1,14 @@
-// What each of the 96 instructions does to the state, to RAM and to the world outside.
+// What an instruction answers, and what is done to registers, RAM, A and ports.
 use isa::Digit;
-use isa::Instruction;
 use isa::Refusal;
-use machine::Count;
 use machine::State;
 ghost use mathlib.Core.Path.{_≡_};
-ghost use Rattle.effects.specs.Execute.{executed, withT};
 ghost use Rattle.effects.specs.Moves.{quiet, stored, signalled, started, lacking};
 
-mod accumulator; // ADD to XRL, CPL A to SWAP A
-mod control; // flags, enables, banks, the counter's mode
-mod jumps; // pages, conditional jumps, DJNZ, tables
-mod memory; // registers and RAM
-mod moves; // XCH, XCHD, INC and DEC of a cell
-mod ports; // ports, BUS, the expander
-pub mod stack; // CALL, RET, RETR, interrupt calls
+pub mod accumulator; // ADD to XRL, CPL A to SWAP A
+pub mod memory; // registers and RAM
+pub mod moves; // XCH, XCHD, INC and DEC of a cell
+pub mod ports; // ports, BUS, the expander
 
 // What is seen from outside, besides the latches.
 pub enum Event {
@@ -58,7 +52,7 @@ pub fn quiet_effect(s: State) -> Effect
     }
 }
 
-fn stored_effect(s: State, at: usize, v: u8) -> Effect
+pub fn stored_effect(s: State, at: usize, v: u8) -> Effect
     ensures { λ r. ⌜ r ≡ stored s at v ⌝ }
 {
     Effect {
@@ -70,7 +64,7 @@ fn stored_effect(s: State, at: usize, v: u8) -> Effect
     }
 }
 
-fn signalled_effect(s: State, e: Event) -> Effect
+pub fn signalled_effect(s: State, e: Event) -> Effect
     ensures { λ r. ⌜ r ≡ signalled s e ⌝ }
 {
     Effect {
@@ -82,7 +76,7 @@ fn signalled_effect(s: State, e: Event) -> Effect
     }
 }
 
-fn started_effect(s: State) -> Effect
+pub fn started_effect(s: State) -> Effect
     ensures { λ r. ⌜ r ≡ started s ⌝ }
 {
     Effect {
@@ -94,7 +88,7 @@ fn started_effect(s: State) -> Effect
     }
 }
 
-fn lacking_effect(s: State) -> Effect
+pub fn lacking_effect(s: State) -> Effect
     ensures { λ r. ⌜ r ≡ lacking s ⌝ }
 {
     Effect {
@@ -103,80 +97,5 @@ fn lacking_effect(s: State) -> Effect
         event: Event::Quiet,
         write: Write::Nothing,
         fresh: false,
-    }
-}
-
-// MOV T,A
-fn with_t(s: State, t: u8) -> State
-    ensures { λ r. ⌜ r ≡ withT s t ⌝ }
-{
-    s.with_count(Count {
-        t,
-        divider: s.divider,
-        tf: s.tf,
-        request: s.request,
-        t1: s.t1,
-    })
-}
-
-// The effect of an instruction whose first byte is at `base`, on a state whose PC is past it already.
-pub fn execute(
-    i: Instruction,
-    program: &[u8],
-    ram: &[u8],
-    s: State,
-    base: u16,
-    first: u32,
-    second: u32,
-) -> Effect
-    ensures { λ r. ⌜ r ≡ executed i (now (program .entry)) (now (ram .entry)) s base first second ⌝ }
-{
-    match i {
-        Instruction::Alu(op, from) => quiet_effect(accumulator::operate(
-            op,
-            memory::source(from, ram, s.psw),
-            s,
-        )),
-        Instruction::Accumulator(op) => quiet_effect(accumulator::change(op, s)),
-        Instruction::Djnz(r, d) => jumps::djnz(s, ram, memory::register(s.psw, r), base, d),
-        Instruction::Branch(c, d) => quiet_effect(jumps::branch(c, s, base, d, first)),
-        Instruction::Jmp(a) => quiet_effect(s.with_pc(jumps::far_target(s, a))),
-        Instruction::Jmpp => jumps::jump_by_table(program, s, base, jumps::jmpp_address(base, s.a)),
-        Instruction::Control(op) => control::switch(op, s),
-        Instruction::MovA(from) => quiet_effect(s.with_a(memory::source(from, ram, s.psw))),
-        Instruction::Mov(to) => stored_effect(s, memory::place(to, ram, s.psw), s.a),
-        Instruction::MovData(to, d) => stored_effect(s, memory::place(to, ram, s.psw), d),
-        Instruction::MovAPsw => quiet_effect(s.with_a(s.psw)),
-        Instruction::MovPswA => quiet_effect(s.with_psw(s.a / 16 * 16 + 8 + s.a % 8)),
-        Instruction::Movp => jumps::load_table(program, s, base, jumps::movp_address(base, s.a)),
-        Instruction::Movp3 => jumps::load_table(program, s, base, jumps::movp3_address(base, s.a)),
-        Instruction::MovxRead(r) => signalled_effect(
-            s.with_a((second % 256) as u8),
-            Event::ExternalRead(memory::cell(ram, memory::register(s.psw, r))),
-        ),
-        Instruction::MovxWrite(r) => signalled_effect(
-            s,
-            Event::ExternalWrite(memory::cell(ram, memory::register(s.psw, r)), s.a),
-        ),
-        Instruction::Xch(c) => moves::exchange(s, ram, memory::place(c, ram, s.psw)),
-        Instruction::Xchd(r) => moves::exchange_digits(s, ram, memory::indirect(ram, s.psw, r)),
-        Instruction::Cpl(f) => quiet_effect(control::complement(f, s)),
-        Instruction::Clr(f) => quiet_effect(control::clear(f, s)),
-        Instruction::Logic(op, l, d) => quiet_effect(ports::write_latch(
-            l,
-            s,
-            ports::join_latch(op, ports::latch_value(l, s), d),
-        )),
-        Instruction::In(l) => quiet_effect(ports::read_pins(l, s, second)),
-        Instruction::Outl(l) => quiet_effect(ports::write_latch(l, s, s.a)),
-        Instruction::Expander(op, p) => ports::move_digit(op, p, s, second),
-        Instruction::Dec(r) => moves::raise(s, ram, memory::register(s.psw, r), 255),
-        Instruction::Inc(c) => moves::raise(s, ram, memory::place(c, ram, s.psw), 1),
-        Instruction::Call(a) => stack::push(s, jumps::far_target(s, a)),
-        Instruction::Ret => quiet_effect(stack::ret(s, ram)),
-        Instruction::Retr => quiet_effect(stack::retr(s, ram)),
-        Instruction::MovAT => quiet_effect(s.with_a(s.t)),
-        Instruction::MovTA => quiet_effect(with_t(s, s.a)),
-        Instruction::Nop => quiet_effect(s),
     }
 }

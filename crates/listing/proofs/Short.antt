@@ -11,7 +11,7 @@ use lib.Dec.{ltb, eqb, leb, leb→le, lit≤}
 use Rattle.isa.proofs.Everywhere.{everywhere}
 use Rattle.isa.specs.declared.table.Entry.{Entry}
 use Rattle.isa.specs.Sheet.{entryOf}
-use Rattle.effects.specs.Jumps.{branchTarget}
+use Rattle.flow.specs.Jumps.{branchTarget}
 use Rattle.listing.specs.Text.{ascii, digitOf, hex2, hex3, byteNumber, addressNumber, expand, expandAll, lettersOf, ending, lineOne, lineTwo}
 use Rattle.listing.specs.Listing.{twoAt, lineWith, lineAt}
 use Rattle.listing.proofs.Texts.{kind-small}

@@ -7,7 +7,7 @@ use mathlib.Core.List.{List, _++_, [] as []ᴸ, _∷_ as _∷ᴸ_}
 use lib.Dec.{ltb, eqb}
 use Rattle.isa.specs.Choice.{pick}
 use Rattle.isa.specs.Sheet.{rowOf}
-use Rattle.effects.specs.Jumps.{branchTarget}
+use Rattle.flow.specs.Jumps.{branchTarget}
 
 -- The bytes of a text.
 abbrev pub ascii : String → List ℕ

@@ -1,0 +1,2 @@
+pub mod Execute
+pub mod Setting

@@ -1,0 +1,116 @@
+// Where a jump goes and where a table byte stands.
+use effects::Effect;
+use isa::Condition;
+use machine::Count;
+use machine::State;
+ghost use mathlib.Core.Path.{_≡_};
+ghost use Rattle.flow.specs.Jumps.{inPage, branchTarget, movpAddress, jmppAddress, movp3Address, farTarget, jumpIf, withoutTf, branched, decremented, tableLoaded, tableJumped};
+
+fn in_page(of: u16, d: u8) -> u16
+    ensures { λ r. ⌜ r ≡ inPage of d ⌝ }
+{
+    of / 256 * 256 + d as u16
+}
+
+fn branch_target(base: u16, d: u8) -> u16
+    ensures { λ r. ⌜ r ≡ branchTarget base d ⌝ }
+{
+    in_page(base, d)
+}
+
+pub fn movp_address(base: u16, a: u8) -> u16
+    ensures { λ r. ⌜ r ≡ movpAddress base a ⌝ }
+{
+    in_page(base, a)
+}
+
+pub fn jmpp_address(base: u16, a: u8) -> u16
+    ensures { λ r. ⌜ r ≡ jmppAddress base a ⌝ }
+{
+    in_page(base, a)
+}
+
+pub fn movp3_address(base: u16, a: u8) -> u16
+    ensures { λ r. ⌜ r ≡ movp3Address base a ⌝ }
+{
+    base / 2048 * 2048 + 0x300 + a as u16
+}
+
+pub fn far_target(s: State, a: u16) -> u16
+    ensures { λ r. ⌜ r ≡ farTarget s a ⌝ }
+{
+    let i = s.interrupts;
+    let upper = s.dbf & !i.service;
+    if upper { a % 2048 + 2048 } else { a % 2048 }
+}
+
+fn jump_if(taken: bool, s: State, base: u16, d: u8) -> State
+    ensures { λ r. ⌜ r ≡ jumpIf taken s base d ⌝ }
+{
+    if taken {
+        s.with_pc(branch_target(base, d))
+    } else {
+        s
+    }
+}
+
+fn without_tf(s: State) -> State
+    ensures { λ r. ⌜ r ≡ withoutTf s ⌝ }
+{
+    s.with_count(Count {
+        t: s.t,
+        divider: s.divider,
+        tf: false,
+        request: s.request,
+        t1: s.t1,
+    })
+}
+
+pub fn branch(c: Condition, s: State, base: u16, d: u8, first: u32) -> State
+    ensures { λ r. ⌜ r ≡ branched c s base d first ⌝ }
+{
+    match c {
+        Condition::Jb(b) => jump_if((s.a >> (b % 8)) % 2 == 1, s, base, d),
+        Condition::Jc => jump_if(s.psw / 128 == 1, s, base, d),
+        Condition::Jf0 => jump_if(s.psw / 32 % 2 == 1, s, base, d),
+        Condition::Jf1 => jump_if(s.f1, s, base, d),
+        Condition::Jnc => jump_if(s.psw / 128 == 0, s, base, d),
+        Condition::Jni => jump_if(first / 0x100_0000 % 2 == 0, s, base, d),
+        Condition::Jnt0 => jump_if(first / 0x200_0000 % 2 == 0, s, base, d),
+        Condition::Jnt1 => jump_if(first / 0x400_0000 % 2 == 0, s, base, d),
+        Condition::Jnz => jump_if(s.a != 0, s, base, d),
+        Condition::Jtf => jump_if(s.tf, without_tf(s), base, d),
+        Condition::Jt0 => jump_if(first / 0x200_0000 % 2 == 1, s, base, d),
+        Condition::Jt1 => jump_if(first / 0x400_0000 % 2 == 1, s, base, d),
+        Condition::Jz => jump_if(s.a == 0, s, base, d),
+    }
+}
+
+pub fn djnz(s: State, ram: &[u8], at: usize, base: u16, d: u8) -> Effect
+    ensures { λ r. ⌜ r ≡ decremented s (now (ram .entry)) at base d ⌝ }
+{
+    let v = ((effects::memory::cell(ram, at) as u16 + 255) % 256) as u8;
+    effects::stored_effect(jump_if(v != 0, s, base, d), at, v)
+}
+
+// MOVP and MOVP3.
+pub fn load_table(program: &[u8], s: State, base: u16, address: u16) -> Effect
+    ensures { λ r. ⌜ r ≡ tableLoaded (now (program .entry)) s base address ⌝ }
+{
+    let at = address as usize;
+    if program.len() <= at {
+        return effects::lacking_effect(s.with_pc(base));
+    }
+    effects::quiet_effect(s.with_a(program[at]))
+}
+
+// JMPP.
+pub fn jump_by_table(program: &[u8], s: State, base: u16, address: u16) -> Effect
+    ensures { λ r. ⌜ r ≡ tableJumped (now (program .entry)) s base address ⌝ }
+{
+    let at = address as usize;
+    if program.len() <= at {
+        return effects::lacking_effect(s.with_pc(base));
+    }
+    effects::quiet_effect(s.with_pc(in_page(base, program[at])))
+}
