@@ -1,13 +1,27 @@
 SHELL = bash
-# make: prove what has changed and build it · make test: the gate, from nothing · make list ROM=file: list a ROM · make fmt
-.PHONY: all test list fmt
-all:
+PREFIX ?= /usr/local
+# make: prove what has changed and build it · make demo: the night of twenty past two · make test: the gate, from nothing
+# make bench · make list ROM=file: list a ROM · make install PREFIX=/usr/local · make fmt
+.PHONY: all archive demo test bench list install fmt
+all: archive
 	rt check
+archive:
+	@mkdir -p target
+	@rt staticlib mcs48_c >target/archive.log 2>&1 || { cat target/archive.log; exit 1; }
+demo: archive
+	@demo/run
 test:
 	bash .ci/run
+bench: archive
+	@bench/run
 list:
 	@[ -n "$(ROM)" ] || { echo 'make list ROM=file' >&2; exit 2; }
 	@rt check list | grep '^rt:' >&2
 	@. tests/kit.sh && program list <"$(firstword $(wildcard $(ROM) $(ROM).bin) $(ROM))"
+install: archive
+	install -Dm644 include/mcs48.h $(DESTDIR)$(PREFIX)/include/mcs48.h
+	install -Dm644 target/staticlib/libmcs48_c.a $(DESTDIR)$(PREFIX)/lib/libmcs48_c.a
+	install -d $(DESTDIR)$(PREFIX)/lib/pkgconfig
+	sed 's|@PREFIX@|$(PREFIX)|' include/mcs48.pc.in >$(DESTDIR)$(PREFIX)/lib/pkgconfig/mcs48.pc
 fmt:
 	rt fmt

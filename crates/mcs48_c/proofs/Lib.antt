@@ -1,0 +1,5 @@
+pub mod Again
+pub mod Copying
+pub mod Lines
+pub mod OneStep
+pub mod States

@@ -1,0 +1,50 @@
+-- Answers packed into one 64-bit number.
+-- Assumes nothing.
+use Prim.Native.Nat.{ℕ, _+_, _*_, _^_}
+use mathlib.Core.List.{List}
+use lib.Dec.{eqb}
+use Rattle.isa.specs.Choice.{pick}
+use Rattle.isa.specs.Numbers.{Answer, given, refused}
+use Rattle.isa.specs.Reading.{Sized, sized, byteAt, nextPc}
+use Rattle.isa.specs.declared.Digit.{Digit}
+use Rattle.isa.specs.declared.Digit.the-variants.{MovdRead, MovdWrite, Orld, Anld}
+use Rattle.effects.specs.declared.Event.{Event}
+use Rattle.effects.specs.declared.Event.the-variants.{Quiet, ExternalRead, ExternalWrite, ExpanderMove}
+use Rattle.chip.specs.declared.Outcome.{Outcome}
+use Rattle.listing.specs.Listing.{Shown, shown}
+
+-- Bytes 0 to 4 of a number, the lowest first.
+unfoldable pub packed : ℕ → ℕ → ℕ → ℕ → ℕ → ℕ
+packed b0 b1 b2 b3 b4 = b0 + b1 * 2 ^ 8 + b2 * 2 ^ 16 + b3 * 2 ^ 24 + b4 * 2 ^ 32
+
+-- A refusal: its number, and nothing else.
+abbrev pub packedRefusal : ℕ → ℕ
+packedRefusal number = packed number 0 0 0 0
+
+-- A step: the number, the machine cycles, and the event's kind, address or port, data or digit.
+abbrev pub digitKind : Digit → ℕ
+digitKind MovdRead = 3
+digitKind MovdWrite = 4
+digitKind Orld = 5
+digitKind Anld = 6
+
+abbrev pub packedEvent : ℕ → ℕ → Event → ℕ
+packedEvent number cycles Quiet = packed number cycles 0 0 0
+packedEvent number cycles (ExternalRead address) = packed number cycles 1 address 0
+packedEvent number cycles (ExternalWrite address d) = packed number cycles 2 address d
+packedEvent number cycles (ExpanderMove op port digit) = packed number cycles (digitKind op) port digit
+
+abbrev pub packedStep : Outcome → ℕ
+packedStep o = packedEvent (o .number) (o .cycles) (o .event)
+
+-- What the reader gives at an address: 0, the length, and the instruction's bytes. The writer writes the very bytes that stand there
+-- (`read-write` in crate writer), so they are named by where they stand; the second by the next PC, and 0 if there is none.
+abbrev pub packedRead : List ℕ → ℕ → Answer Sized → ℕ
+packedRead program a (refused number) = packedRefusal number
+packedRead program a (given (sized i n)) = packed 0 n (byteAt program a) (pick (eqb n 2) (byteAt program (nextPc a)) 0) 0
+
+-- A line: 0, its length in bits 8-23, and in bits 24-39 how many addresses on the next line is. (A line has at most 32 bytes, and the next
+-- is one address on, or two.)
+abbrev pub packedLine : Answer Shown → ℕ
+packedLine (refused number) = packedRefusal number
+packedLine (given (shown n size)) = packed 0 n 0 size 0

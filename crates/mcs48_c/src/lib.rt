@@ -1,0 +1,130 @@
+// The C interface. include/mcs48.h documents each function for its users.
+use effects::Event;
+use isa::Decoded;
+use listing::Listed;
+use machine::State;
+use writer::Written;
+ghost use mathlib.Core.Path.{_≡_};
+ghost use lib.ListN.{length};
+ghost use Rattle.isa.specs.Reading.{readOf};
+ghost use Rattle.machine.specs.State.{powerUp};
+ghost use Rattle.chip.specs.Step.{ramAfter};
+ghost use Rattle.listing.specs.Listing.{lineAfter, listedOf};
+ghost use Rattle.mcs48_c.specs.Bytes.{holding, stateOf};
+ghost use Rattle.mcs48_c.specs.Calls.{afterRun, afterStep, runFrom, spent, stepFrom, totalled, totalsAfter};
+ghost use Rattle.mcs48_c.specs.Packed.{packedLine, packedRead, packedStep};
+
+mod bytes; // the machine state as 24 bytes
+mod packing; // answers packed into one number
+
+// The state after power-up, into a buffer of 24 bytes.
+#[no_mangle]
+pub extern "C" fn mcs48_power_up(state: &mut [u8])
+    ensures { λ r. ⌜ now (state .exit) ≡ holding (now (state .entry)) powerUp ⌝ }
+{
+    bytes::hold(state, State::power_up());
+}
+
+// The instruction at an address, read, and written again by the writer.
+#[no_mangle]
+pub extern "C" fn mcs48_read(program: &[u8], address: usize) -> u64
+    ensures { λ r. ⌜ r ≡ packedRead (now (program .entry)) address (readOf (now (program .entry)) address) ⌝ }
+{
+    match isa::read(program, address) {
+        Decoded::Found(i, n) => match writer::write(i) {
+            Written::One(b) => packing::pack(0, n, b, 0, 0),
+            Written::Two(b, d) => packing::pack(0, n, b, d, 0),
+            Written::Unwritten(r) => packing::pack_refusal(r),
+        },
+        Decoded::Unread(r) => packing::pack_refusal(r),
+    }
+}
+
+// One line of a listing, into a buffer.
+#[no_mangle]
+pub extern "C" fn mcs48_list_line(program: &[u8], address: usize, line: &mut [u8]) -> u64
+    ensures answer { λ r. ⌜ r ≡ packedLine (listedOf (now (program .entry)) address (length (now (line .entry)))) ⌝ }
+    ensures left { λ r. ⌜ now (line .exit) ≡ lineAfter (now (program .entry)) address (now (line .entry)) ⌝ }
+{
+    match listing::line(program, address, line) {
+        Listed::Printed(n, size) => packing::pack(0, (n % 256) as u8, 0, size, 0),
+        Listed::Unlisted(r) => packing::pack_refusal(r),
+    }
+}
+
+// What is left of a run's answer once its state is in the lent bytes.
+pub struct Spent {
+    pub number: u8,
+    pub used: usize,
+    pub cycles: u64,
+    pub event: Event,
+}
+
+// A run over lent buffers. The only caller of the chip, and a step from C is a run over its two samples: so the whole step is in one place
+// in the machine code (docs/PERFORMANCE.md).
+fn run_lent(program: &[u8], ram: &mut [u8], state: &mut [u8], samples: &[u32]) -> Spent
+    ensures answer { λ r. ⌜ r ≡ spent (runFrom (now (program .entry)) (now (ram .entry)) (now (state .entry)) (now (samples .entry)) .ran) ⌝ }
+    ensures memory { λ r. ⌜ now (ram .exit) ≡ runFrom (now (program .entry)) (now (ram .entry)) (now (state .entry)) (now (samples .entry)) .ram ⌝ }
+    ensures left { λ r. ⌜ now (state .exit) ≡ afterRun (now (state .entry)) (runFrom (now (program .entry)) (now (ram .entry)) (now (state .entry)) (now (samples .entry)) .ran) ⌝ }
+{
+    let start = bytes::state_of(&state[..]);
+    let r = chip::run(program, ram, start, samples);
+    let event = r.event;
+    if r.used != 0 {
+        bytes::hold(state, r.state);
+    }
+    Spent {
+        number: r.number,
+        used: r.used,
+        cycles: r.cycles,
+        event,
+    }
+}
+
+fn total(totals: &mut [u64], used: usize, cycles: u64)
+    ensures { λ r. ⌜ now (totals .exit) ≡ totalled (now (totals .entry)) used cycles ⌝ }
+{
+    if totals.len() < 2 {
+        return;
+    }
+    totals[0] = used as u64;
+    totals[1] = cycles;
+}
+
+// A run over samples.
+#[no_mangle]
+pub extern "C" fn mcs48_run(
+    program: &[u8],
+    ram: &mut [u8],
+    state: &mut [u8],
+    samples: &[u32],
+    totals: &mut [u64],
+) -> u64
+    ensures answer { λ r. ⌜ r ≡ runFrom (now (program .entry)) (now (ram .entry)) (now (state .entry)) (now (samples .entry)) .ran .number ⌝ }
+    ensures memory { λ r. ⌜ now (ram .exit) ≡ runFrom (now (program .entry)) (now (ram .entry)) (now (state .entry)) (now (samples .entry)) .ram ⌝ }
+    ensures left { λ r. ⌜ now (state .exit) ≡ afterRun (now (state .entry)) (runFrom (now (program .entry)) (now (ram .entry)) (now (state .entry)) (now (samples .entry)) .ran) ⌝ }
+    ensures sums { λ r. ⌜ now (totals .exit) ≡ totalsAfter (now (totals .entry)) (runFrom (now (program .entry)) (now (ram .entry)) (now (state .entry)) (now (samples .entry)) .ran) ⌝ }
+{
+    let r = run_lent(program, ram, state, samples);
+    total(totals, r.used, r.cycles);
+    r.number as u64
+}
+
+// One step, as a run over its two samples.
+#[no_mangle]
+pub extern "C" fn mcs48_step(
+    program: &[u8],
+    ram: &mut [u8],
+    state: &mut [u8],
+    first: u32,
+    second: u32,
+) -> u64
+    ensures answer { λ r. ⌜ r ≡ packedStep (stepFrom (now (program .entry)) (now (ram .entry)) (now (state .entry)) first second) ⌝ }
+    ensures memory { λ r. ⌜ now (ram .exit) ≡ ramAfter (now (program .entry)) (now (ram .entry)) (stateOf (now (state .entry))) first second ⌝ }
+    ensures left { λ r. ⌜ now (state .exit) ≡ afterStep (now (state .entry)) (stepFrom (now (program .entry)) (now (ram .entry)) (now (state .entry)) first second) ⌝ }
+{
+    let samples = [first, second];
+    let r = run_lent(program, ram, state, &samples);
+    let event = r.event;
+    packing::pack_step(r.number, (r.cycles % 256) as u8, event)
+}

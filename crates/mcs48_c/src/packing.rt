@@ -1,0 +1,46 @@
+// Answers packed into one 64-bit number.
+use effects::Event;
+use isa::Digit;
+use isa::Refusal;
+ghost use mathlib.Core.Path.{_≡_};
+ghost use Rattle.isa.specs.Numbers.{numberOf};
+ghost use Rattle.mcs48_c.specs.Packed.{digitKind, packed, packedEvent, packedRefusal};
+
+// Bytes 0 to 4 of a number.
+pub fn pack(b0: u8, b1: u8, b2: u8, b3: u8, b4: u8) -> u64
+    ensures { λ r. ⌜ r ≡ packed b0 b1 b2 b3 b4 ⌝ }
+{
+    (b0 as u64)
+        + (b1 as u64) * 0x100
+        + (b2 as u64) * 0x1_0000
+        + (b3 as u64) * 0x100_0000
+        + (b4 as u64) * 0x1_0000_0000
+}
+
+pub fn pack_refusal(r: Refusal) -> u64
+    ensures { λ n. ⌜ n ≡ packedRefusal (numberOf r) ⌝ }
+{
+    pack(isa::number(r), 0, 0, 0, 0)
+}
+
+fn digit_kind(op: Digit) -> u8
+    ensures { λ r. ⌜ r ≡ digitKind op ⌝ }
+{
+    match op {
+        Digit::MovdRead => 3,
+        Digit::MovdWrite => 4,
+        Digit::Orld => 5,
+        Digit::Anld => 6,
+    }
+}
+
+pub fn pack_step(number: u8, cycles: u8, event: Event) -> u64
+    ensures { λ r. ⌜ r ≡ packedEvent number cycles event ⌝ }
+{
+    match event {
+        Event::Quiet => pack(number, cycles, 0, 0, 0),
+        Event::ExternalRead(address) => pack(number, cycles, 1, address, 0),
+        Event::ExternalWrite(address, d) => pack(number, cycles, 2, address, d),
+        Event::ExpanderMove(op, port, digit) => pack(number, cycles, digit_kind(op), port, digit),
+    }
+}

@@ -1,0 +1,20 @@
+/*
+ * Lists the box's ROM, so that demo/run can hold the mnemonics of box.asm against its code bytes.
+ */
+#include "box.h"
+
+#include <stdio.h>
+
+int main(void)
+{
+    uint8_t line[MCS48_LINE_BYTES];
+
+    for (size_t address = 0; address < ROM_SIZE;) {
+        uint64_t answer = mcs48_list_line(box_rom, sizeof box_rom, address, line, sizeof line);
+
+        box_accept(answer & 0xFF);
+        fwrite(line, 1, answer >> 8 & 0xFFFF, stdout);
+        address += answer >> 24 & 0xFFFF;
+    }
+    return 0;
+}

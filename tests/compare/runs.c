@@ -1,0 +1,427 @@
+/*
+ * Runs: mcs48_run against second_run over random programs and lists of samples. Compared are
+ * the number, the totals, the state and RAM; and a run with the same run cut in pieces, and
+ * with its steps one at a time.
+ *
+ * --count N: runs in each case.
+ */
+#include "chips.h"
+#include "mcs48.h"
+
+#include <stdio.h>
+#include <string.h>
+
+enum { SAMPLES_MOST = 999, TOTALS_MOST = 3, PIECES_SHOWN = 64 };
+
+/* The run under way. */
+
+static struct chip chip;
+static uint32_t samples[SAMPLES_MOST];
+static size_t samples_len;
+static uint64_t totals[TOTALS_MOST]; /* before the run */
+static size_t totals_len;
+
+static struct lent_chip lent;
+static struct lent lent_samples;
+static struct lent lent_totals;
+
+struct result {
+    uint64_t number;
+    uint64_t samples;
+    uint64_t cycles;
+};
+
+static struct result proved;
+static struct result second;
+static size_t pieces[PIECES_SHOWN]; /* the lengths of the lists of a run that is cut */
+static size_t pieces_len;
+
+static void show_result(const char *label, struct result result)
+{
+    printf("  %s: number %llu, samples %llu, cycles %llu\n", label,
+           (unsigned long long)result.number, (unsigned long long)result.samples,
+           (unsigned long long)result.cycles);
+}
+
+static void show(void)
+{
+    show_before(&chip);
+    printf("  %zu samples:", samples_len);
+    for (size_t i = 0; i < samples_len; i++)
+        printf("%s%08X", i % 10 == 0 ? "\n    " : " ", (unsigned)samples[i]);
+    printf("\n  totals of %zu elements\n", totals_len);
+    if (pieces_len > 0)
+        printf("  cut in lists of");
+    for (size_t i = 0; i < pieces_len; i++)
+        printf(" %zu", pieces[i]);
+    printf("\n");
+    show_result("proved", proved);
+    show_result("second", second);
+    show_after(&lent, &chip);
+}
+
+/* One run of both. */
+
+/* Where there is room for both totals, and nowhere else, they are written. */
+static void check_totals(void)
+{
+    uint64_t expected[TOTALS_MOST];
+
+    memcpy(expected, totals, sizeof expected);
+    if (totals_len >= 2) {
+        expected[0] = second.samples;
+        expected[1] = second.cycles;
+    }
+    came_back(&lent_totals, "the list of totals", expected);
+}
+
+static void check_run(void)
+{
+    pieces_len = 0;
+    totals_len = below(TOTALS_MOST + 1);
+    random_bytes((uint8_t *)totals, sizeof totals);
+    lend_chip(&lent, &chip);
+    const uint32_t *list = lend(&lent_samples, samples, samples_len * sizeof *samples);
+    uint64_t *sums = lend(&lent_totals, totals, totals_len * sizeof *totals);
+
+    proved = second = (struct result){0};
+    proved.number = mcs48_run(lent.program.at, chip.program_len, lent.ram.at, chip.ram_len,
+                              lent.state.at, chip.state_len, list, samples_len, sums, totals_len);
+    if (totals_len >= 2) {
+        proved.samples = sums[0];
+        proved.cycles = sums[1];
+    }
+    struct second_totals answer =
+        second_run(chip.program, chip.program_len, lent.second_ram, chip.ram_len,
+                   &lent.second_state, samples, samples_len);
+    second = (struct result){answer.number, answer.samples, answer.cycles};
+
+    if (proved.number != second.number)
+        differ("the number differs");
+    check_totals();
+    came_back(&lent_samples, "the list of samples", samples);
+    compare_chips(&lent, &chip);
+}
+
+/* The same run in parts, by the proved emulator alone. */
+
+static struct chip part; /* the chip after the parts done so far */
+
+static void begin_parts(void)
+{
+    memcpy(part.program, chip.program, chip.program_len);
+    memcpy(part.ram, chip.ram, chip.ram_len);
+    memcpy(part.state, chip.state, chip.state_len);
+    part.program_len = chip.program_len;
+    part.ram_len = chip.ram_len;
+    part.state_len = chip.state_len;
+    proved = (struct result){0};
+}
+
+static void take_back(void)
+{
+    memcpy(part.ram, lent.ram.at, part.ram_len);
+    memcpy(part.state, lent.state.at, part.state_len);
+}
+
+static void run_part(size_t len)
+{
+    uint64_t sums[2] = {0, 0};
+
+    lend_chip(&lent, &part);
+    const uint32_t *list =
+        lend(&lent_samples, samples + proved.samples, len * sizeof *samples);
+    proved.number = mcs48_run(lent.program.at, part.program_len, lent.ram.at, part.ram_len,
+                              lent.state.at, part.state_len, list, len, sums, 2);
+    proved.samples += sums[0];
+    proved.cycles += sums[1];
+    take_back();
+}
+
+static void step_part(void)
+{
+    const uint32_t *pair = samples + proved.samples;
+
+    lend_chip(&lent, &part);
+    uint64_t answer = mcs48_step(lent.program.at, part.program_len, lent.ram.at, part.ram_len,
+                                 lent.state.at, part.state_len, pair[0], pair[1]);
+    proved.number = answer & 0xFF;
+    proved.samples += answer >> 8 & 0xFF;
+    proved.cycles += answer >> 8 & 0xFF;
+    take_back();
+}
+
+/* Are the parts together what second_run has left? */
+static void compare_parts(const struct second_state *state, const uint8_t *ram)
+{
+    uint8_t bytes[STATE_BYTES];
+
+    bytes_of_state(bytes, state);
+    if (memcmp(part.state, bytes, sizeof bytes) != 0)
+        differ("the state after the parts differs");
+    if (memcmp(part.ram, ram, part.ram_len) != 0)
+        differ("the RAM after the parts differs");
+    if (proved.number != second.number || proved.samples != second.samples ||
+        proved.cycles != second.cycles)
+        differ("the parts don't add up to the run");
+}
+
+static void cut_run(void)
+{
+    size_t left;
+    size_t len;
+
+    do {
+        left = samples_len - proved.samples;
+        len = one_in(8) ? left : below((uint32_t)left + 1);
+        if (pieces_len < PIECES_SHOWN)
+            pieces[pieces_len++] = len;
+        run_part(len);
+    } while (proved.number == 0 && len < left);
+}
+
+static void step_run(void)
+{
+    while (proved.number == 0 && samples_len - proved.samples >= 2)
+        step_part();
+}
+
+static void check_parts(void (*in_parts)(void))
+{
+    check_run();
+    struct second_state state = lent.second_state;
+    uint8_t ram[256];
+    memcpy(ram, lent.second_ram, chip.ram_len);
+
+    begin_parts();
+    in_parts();
+    compare_parts(&state, ram);
+}
+
+static void check_pieces(void)
+{
+    check_parts(cut_run);
+}
+
+static void check_steps(void)
+{
+    check_parts(step_run);
+}
+
+/* Random runs. */
+
+static uint8_t defined_code(void)
+{
+    uint8_t code;
+
+    do {
+        code = (uint8_t)random_word();
+    } while (!is_defined(code));
+    return code;
+}
+
+/* A code after which a program of that size is hardly left by a jump. */
+static uint8_t staying_code(size_t program_len)
+{
+    uint8_t code = defined_code();
+
+    if ((code & 0x0F) == 0x04 && program_len == 1024)
+        code &= 0x7F; /* JMP and CALL to the lower four pages */
+    if (code == 0xF5 && program_len < 4096)
+        code = 0xE5; /* SEL MB0 for SEL MB1 */
+    return code;
+}
+
+/* A program of defined codes, and a stack that leads back into it: it runs for long. */
+static void enduring_program(void)
+{
+    for (size_t i = 0; i < chip.program_len; i++)
+        chip.program[i] = staying_code(chip.program_len);
+    for (size_t i = 9; i < 24; i += 2)
+        chip.ram[i] = (uint8_t)((chip.ram[i] & 0xF0) | below((uint32_t)chip.program_len / 256));
+    set_pc(&chip, pc_of(&chip) % (uint16_t)chip.program_len);
+    if (chip.program_len < 4096)
+        chip.state[BYTE_DBF] = 0;
+}
+
+/* Each list has its own mood: how often RESET and INT are low, and whether a bit is set. */
+static void random_samples(size_t len)
+{
+    uint32_t reset = 1u << below(16);
+    uint32_t request = 1u << below(10);
+
+    samples_len = len;
+    for (size_t i = 0; i < len; i++) {
+        samples[i] = random_word() & SECOND_PIN_IDLE;
+        samples[i] |= SECOND_PIN_INT | SECOND_PIN_RESET;
+        if (one_in(request))
+            samples[i] &= ~SECOND_PIN_INT;
+        if (reset > 8 && one_in(reset))
+            samples[i] &= ~SECOND_PIN_RESET;
+    }
+    if (len > 0 && one_in(4)) {
+        size_t at = one_in(4) ? len - 1 : below((uint32_t)len);
+        samples[at] |= UINT32_C(1) << (28 + below(4));
+    }
+}
+
+static void random_run(bool enduring, size_t len)
+{
+    random_sizes(&chip);
+    random_program(&chip);
+    random_state(&chip);
+    random_ram(&chip);
+    if (enduring)
+        enduring_program();
+    random_samples(len);
+}
+
+/* What all the runs together have met. */
+
+enum met { RAN_OUT, ALL_USED, ONE_LEFT, NUMBER_4, NUMBER_5, NUMBER_6, STOOD, MEETINGS };
+
+static const char *const meeting_names[MEETINGS] = {
+    "samples ran out", "none left", "one left", "4", "5", "6", "steps that stood before a refusal"};
+
+static uint64_t meetings[MEETINGS];
+static uint64_t longest;
+
+static void note(void)
+{
+    uint64_t left = samples_len - second.samples;
+
+    meetings[RAN_OUT] += second.number == 0;
+    meetings[ALL_USED] += second.number == 0 && second.samples > 0 && left == 0;
+    meetings[ONE_LEFT] += second.number == 0 && second.samples > 0 && left == 1;
+    if (second.number >= 4 && second.number <= 6)
+        meetings[NUMBER_4 + second.number - 4]++;
+    meetings[STOOD] += second.number != 0 && second.samples > 0;
+    longest = second.samples > longest ? second.samples : longest;
+}
+
+/* Cases. */
+
+struct manner {
+    const char *name;
+    void (*check)(void);
+};
+
+static void run_case(const struct manner *manner, bool enduring, uint32_t least, uint32_t most)
+{
+    begin_case("%s, %s, %u to %u samples", manner->name,
+               enduring ? "defined codes" : "any bytes", (unsigned)least, (unsigned)most);
+    for (uint64_t i = 0; i < count() && agrees(); i++) {
+        random_run(enduring, least + below(most - least + 1));
+        manner->check();
+        note();
+    }
+    end_case();
+}
+
+static void run_cases(void)
+{
+    static const struct manner manners[] = {
+        {"whole runs", check_run}, {"runs in pieces", check_pieces}, {"single steps", check_steps}};
+    static const uint32_t lengths[][2] = {{0, 0}, {1, 1},   {2, 2},    {3, 3},
+                                          {4, 9}, {10, 99}, {100, SAMPLES_MOST}};
+
+    for (size_t i = 0; i < LENGTH(manners); i++) {
+        for (size_t j = 0; j < LENGTH(lengths); j++) {
+            run_case(&manners[i], false, lengths[j][0], lengths[j][1]);
+            run_case(&manners[i], true, lengths[j][0], lengths[j][1]);
+        }
+    }
+}
+
+/* Refused before the first step, also without a sample. */
+
+static void bad_program_length(void)
+{
+    static const size_t lengths[] = {0, 1, 64, 1000, 1023, 1025, 4095, 4097, 0x10000 + 1024};
+
+    chip.program_len = lengths[below(LENGTH(lengths))];
+}
+
+static void bad_ram_length(void)
+{
+    static const size_t lengths[] = {0, 1, 63, 65, 127, 255, 257, 1024, 0x10000 + 64};
+
+    chip.ram_len = lengths[below(LENGTH(lengths))];
+}
+
+static void bad_state(void)
+{
+    static const enum state_byte limited[] = {BYTE_PC_HIGH, BYTE_F1,      BYTE_DIVIDER,
+                                              BYTE_COUNTING, BYTE_TF,     BYTE_LAST_T1,
+                                              BYTE_BUS_DRIVEN, BYTE_RESERVED};
+
+    if (one_in(4))
+        chip.state[BYTE_PSW] &= 0xF7;
+    else
+        chip.state[limited[below(LENGTH(limited))]] = (uint8_t)(32 + below(224));
+}
+
+static void bad_state_length(void)
+{
+    static const size_t lengths[] = {0, 1, 20, 23, 25, 64};
+
+    chip.state_len = lengths[below(LENGTH(lengths))];
+}
+
+static void bad_in_two_ways(void)
+{
+    static void (*const ways[])(void) = {bad_program_length, bad_ram_length, bad_state,
+                                         bad_state_length};
+
+    ways[below(LENGTH(ways))]();
+    ways[below(LENGTH(ways))]();
+}
+
+static void refused_case(const char *name, void (*spoil)(void))
+{
+    begin_case("%s", name);
+    for (uint64_t i = 0; i < count() && agrees(); i++) {
+        random_run(one_in(2), one_in(2) ? below(3) : below(SAMPLES_MOST));
+        spoil();
+        check_run();
+        if (second.number < 1 || second.number > 3 || second.samples != 0)
+            differ("not refused before the first step");
+    }
+    end_case();
+}
+
+static void refused_cases(void)
+{
+    refused_case("program length not allowed", bad_program_length);
+    refused_case("RAM length not allowed", bad_ram_length);
+    refused_case("state outside its sizes", bad_state);
+    refused_case("state length not allowed", bad_state_length);
+    refused_case("two of these", bad_in_two_ways);
+}
+
+static void meeting_case(void)
+{
+    begin_case("what the runs have met");
+    printf("runs: met");
+    for (int i = 0; i < MEETINGS; i++) {
+        printf(" %s %llu,", meeting_names[i], (unsigned long long)meetings[i]);
+        if (meetings[i] == 0)
+            differ("%s: never", meeting_names[i]);
+    }
+    printf(" longest %llu samples\n", (unsigned long long)longest);
+    end_case();
+}
+
+int main(int argc, char **argv)
+{
+    static const struct driver driver = {"runs", 1000, show};
+
+    start(&driver, argc, argv);
+    new_rooms(&lent);
+    lent_samples = new_room(sizeof samples);
+    lent_totals = new_room(sizeof totals);
+    run_cases();
+    refused_cases();
+    meeting_case();
+    return finish();
+}

@@ -1,0 +1,368 @@
+/*
+ * What the drivers share: random numbers, the count of cases, buffers that are lent with
+ * guards around them, and the 24 bytes of a machine state.
+ */
+#define _DEFAULT_SOURCE /* MAP_ANONYMOUS */
+#include "shared.h"
+
+#include <signal.h>
+#include <stdarg.h>
+#include <stdio.h>
+#include <stdlib.h>
+#include <string.h>
+#include <sys/mman.h>
+
+/* Random numbers: splitmix64. */
+
+static uint64_t random_state;
+
+static uint64_t random_64(void)
+{
+    uint64_t z = random_state += UINT64_C(0x9E3779B97F4A7C15);
+
+    z = (z ^ z >> 30) * UINT64_C(0xBF58476D1CE4E5B9);
+    z = (z ^ z >> 27) * UINT64_C(0x94D049BB133111EB);
+    return z ^ z >> 31;
+}
+
+uint32_t random_word(void)
+{
+    return (uint32_t)(random_64() >> 32);
+}
+
+uint32_t below(uint32_t limit)
+{
+    return (uint32_t)((uint64_t)random_word() * limit >> 32);
+}
+
+bool one_in(uint32_t times)
+{
+    return below(times) == 0;
+}
+
+void random_bytes(uint8_t *to, size_t len)
+{
+    while (len > 0) {
+        uint64_t word = random_64();
+        size_t part = len < sizeof word ? len : sizeof word;
+
+        memcpy(to, &word, part);
+        to += part;
+        len -= part;
+    }
+}
+
+/* Cases. */
+
+enum { DIFFERENCE = 1, UNABLE = 2 };
+
+static const struct driver *driver;
+static uint64_t seed = 48;
+static uint64_t calls;
+static uint64_t place;
+static char case_name[80];
+static bool case_agrees;
+static unsigned passed;
+static unsigned failed;
+
+_Noreturn void give_up(const char *why)
+{
+    printf("%s: %s\n", driver->name, why);
+    exit(UNABLE);
+}
+
+/* Only what is lent may be touched. The signal ends the driver as it would have anyway. */
+static void fault(int signal_number)
+{
+    printf("%s: %s: signal %d in this call:\n", driver->name, case_name, signal_number);
+    driver->show();
+    fflush(stdout);
+    signal(signal_number, SIG_DFL);
+    raise(signal_number);
+}
+
+static uint64_t number_after(int argc, char **argv, int at)
+{
+    char *end = NULL;
+    uint64_t number = at + 1 < argc ? strtoull(argv[at + 1], &end, 10) : 0;
+
+    if (end == NULL || *end != '\0')
+        give_up("takes --seed N and --count N");
+    return number;
+}
+
+void start(const struct driver *chosen, int argc, char **argv)
+{
+    static const int faults[] = {SIGSEGV, SIGBUS, SIGILL, SIGFPE, SIGTRAP};
+
+    driver = chosen;
+    calls = driver->count;
+    for (int i = 1; i < argc; i += 2) {
+        if (strcmp(argv[i], "--seed") == 0)
+            seed = number_after(argc, argv, i);
+        else if (strcmp(argv[i], "--count") == 0)
+            calls = number_after(argc, argv, i);
+        else
+            give_up("takes --seed N and --count N");
+    }
+    for (size_t i = 0; i < LENGTH(faults); i++)
+        signal(faults[i], fault);
+    printf("%s: seed %llu, count %llu\n", driver->name, (unsigned long long)seed,
+           (unsigned long long)calls);
+}
+
+uint64_t count(void)
+{
+    return calls;
+}
+
+void begin_case(const char *format, ...)
+{
+    va_list words;
+
+    va_start(words, format);
+    vsnprintf(case_name, sizeof case_name, format, words);
+    va_end(words);
+    case_agrees = true;
+    random_state = seed << 32 ^ place++;
+}
+
+void differ(const char *format, ...)
+{
+    va_list words;
+
+    if (!case_agrees)
+        return;
+    case_agrees = false;
+    printf("%s: %s: ", driver->name, case_name);
+    va_start(words, format);
+    vprintf(format, words);
+    va_end(words);
+    printf("\n");
+    if (failed == 0)
+        driver->show();
+}
+
+bool agrees(void)
+{
+    return case_agrees;
+}
+
+void end_case(void)
+{
+    if (case_agrees)
+        passed++;
+    else
+        failed++;
+}
+
+int finish(void)
+{
+    printf("%u passed, %u failed\n", passed, failed);
+    return failed == 0 ? 0 : DIFFERENCE;
+}
+
+/* Lent buffers. */
+
+enum {
+    UNIT = 1 << 16, /* a multiple of every page size, so that no neighbour shares a page */
+    GUARD = 64,
+    GUARD_BYTE = 0xA5
+};
+
+static uint8_t *map(size_t size, int protection)
+{
+    void *at = mmap(NULL, size, protection, MAP_PRIVATE | MAP_ANONYMOUS | MAP_NORESERVE, -1, 0);
+
+    if (at == MAP_FAILED)
+        give_up("no memory");
+    return at;
+}
+
+const uint8_t *zeros(size_t len)
+{
+    return map(len, PROT_READ);
+}
+
+struct lent new_room(size_t most)
+{
+    size_t size = (most + 2 * GUARD + UNIT - 1) / UNIT * UNIT;
+    uint8_t *all = map(size + 3 * UNIT, PROT_NONE);
+    uint8_t *room = all + UNIT + (UNIT - (uintptr_t)all % UNIT) % UNIT;
+
+    if (mprotect(room, size, PROT_READ | PROT_WRITE) != 0)
+        give_up("no memory");
+    return (struct lent){.room = room, .size = size, .at = room};
+}
+
+/* How many guard bytes stand before and after what is lent. */
+static size_t guards_before(const struct lent *lent)
+{
+    return lent->at == lent->room ? 0 : GUARD;
+}
+
+static size_t guards_after(const struct lent *lent)
+{
+    return lent->at + lent->len == lent->room + lent->size ? 0 : GUARD;
+}
+
+void *lend(struct lent *lent, const void *bytes, size_t len)
+{
+    if (len + 2 * GUARD > lent->size)
+        give_up("a buffer is larger than its room");
+    switch (below(3)) {
+    case 0:
+        lent->at = lent->room;
+        break;
+    case 1:
+        lent->at = lent->room + lent->size - len;
+        break;
+    default:
+        lent->at = lent->room + GUARD;
+        break;
+    }
+    lent->len = len;
+    memcpy(lent->at, bytes, len);
+    memset(lent->at - guards_before(lent), GUARD_BYTE, guards_before(lent));
+    memset(lent->at + len, GUARD_BYTE, guards_after(lent));
+    return lent->at;
+}
+
+static bool is_guard(const uint8_t *bytes, size_t len)
+{
+    uint8_t guard[GUARD];
+
+    memset(guard, GUARD_BYTE, sizeof guard);
+    return memcmp(bytes, guard, len) == 0;
+}
+
+void came_back(const struct lent *lent, const char *name, const void *expected)
+{
+    if (memcmp(lent->at, expected, lent->len) != 0)
+        differ("%s differs", name);
+    if (!is_guard(lent->at - guards_before(lent), guards_before(lent)))
+        differ("written to before the start of %s", name);
+    if (!is_guard(lent->at + lent->len, guards_after(lent)))
+        differ("written to past the end of %s", name);
+}
+
+/* The machine state as bytes. */
+
+const char *const state_byte_names[STATE_BYTES] = {
+    "A",
+    "PC low",
+    "PC high",
+    "PSW",
+    "F1",
+    "DBF",
+    "T",
+    "divider",
+    "counting",
+    "TF",
+    "request",
+    "external enable",
+    "timer enable",
+    "in service",
+    "last T1",
+    "T0 clock",
+    "P1",
+    "P2",
+    "BUS",
+    "BUS driven",
+    "byte 20",
+    "byte 21",
+    "byte 22",
+    "byte 23",
+};
+
+void bytes_of_state(uint8_t bytes[STATE_BYTES], const struct second_state *state)
+{
+    memset(bytes, 0, STATE_BYTES);
+    bytes[BYTE_A] = state->a;
+    bytes[BYTE_PC_LOW] = (uint8_t)state->pc;
+    bytes[BYTE_PC_HIGH] = (uint8_t)(state->pc >> 8);
+    bytes[BYTE_PSW] = state->psw;
+    bytes[BYTE_F1] = state->f1;
+    bytes[BYTE_DBF] = state->dbf;
+    bytes[BYTE_T] = state->t;
+    bytes[BYTE_DIVIDER] = state->divider;
+    bytes[BYTE_COUNTING] = state->counting;
+    bytes[BYTE_TF] = state->tf;
+    bytes[BYTE_REQUEST] = state->request;
+    bytes[BYTE_EXTERNAL_ENABLED] = state->external_enabled;
+    bytes[BYTE_TIMER_ENABLED] = state->timer_enabled;
+    bytes[BYTE_IN_SERVICE] = state->in_service;
+    bytes[BYTE_LAST_T1] = state->last_t1;
+    bytes[BYTE_T0_CLOCK] = state->t0_clock;
+    bytes[BYTE_P1] = state->p1;
+    bytes[BYTE_P2] = state->p2;
+    bytes[BYTE_BUS] = state->bus;
+    bytes[BYTE_BUS_DRIVEN] = state->bus_driven;
+}
+
+bool known_to_second(const uint8_t *bytes, size_t len)
+{
+    static const uint8_t none[STATE_BYTES - BYTE_RESERVED];
+
+    return len == STATE_BYTES && memcmp(bytes + BYTE_RESERVED, none, sizeof none) == 0;
+}
+
+struct second_state state_of_bytes(const uint8_t *bytes, size_t len)
+{
+    if (!known_to_second(bytes, len))
+        return (struct second_state){.psw = 0};
+    return (struct second_state){
+        .a = bytes[BYTE_A],
+        .pc = (uint16_t)(bytes[BYTE_PC_LOW] | bytes[BYTE_PC_HIGH] << 8),
+        .psw = bytes[BYTE_PSW],
+        .f1 = bytes[BYTE_F1],
+        .dbf = bytes[BYTE_DBF],
+        .t = bytes[BYTE_T],
+        .divider = bytes[BYTE_DIVIDER],
+        .counting = bytes[BYTE_COUNTING],
+        .tf = bytes[BYTE_TF],
+        .request = bytes[BYTE_REQUEST],
+        .external_enabled = bytes[BYTE_EXTERNAL_ENABLED],
+        .timer_enabled = bytes[BYTE_TIMER_ENABLED],
+        .in_service = bytes[BYTE_IN_SERVICE],
+        .last_t1 = bytes[BYTE_LAST_T1],
+        .t0_clock = bytes[BYTE_T0_CLOCK],
+        .p1 = bytes[BYTE_P1],
+        .p2 = bytes[BYTE_P2],
+        .bus = bytes[BYTE_BUS],
+        .bus_driven = bytes[BYTE_BUS_DRIVEN],
+    };
+}
+
+/* Printing. */
+
+void print_bytes(const char *label, const uint8_t *bytes, size_t len)
+{
+    printf("  %s, %zu bytes:", label, len);
+    for (size_t i = 0; i < len; i++) {
+        if (i % 16 == 0)
+            printf("\n    %03zX:", i);
+        printf(" %02X", bytes[i]);
+    }
+    printf("\n");
+}
+
+void print_state(const char *label, const uint8_t *bytes, size_t len)
+{
+    if (len != STATE_BYTES) {
+        print_bytes(label, bytes, len);
+        return;
+    }
+    printf("  %s:\n   ", label);
+    for (size_t i = 0; i < len; i++)
+        printf(" %s %02X%s", state_byte_names[i], bytes[i],
+               i + 1 == len ? "\n" : i % 8 == 7 ? "\n   " : ",");
+}
+
+void print_unlike(const char *label, const uint8_t *proved, const uint8_t *second, size_t len)
+{
+    for (size_t i = 0; i < len; i++) {
+        if (proved[i] != second[i])
+            printf("  %s %zu: proved %02X, second %02X\n", label, i, proved[i], second[i]);
+    }
+}

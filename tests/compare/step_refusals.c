@@ -1,0 +1,173 @@
+/*
+ * Steps that are refused for what they are lent. Resets, interrupts, bits 28 to 31 and a
+ * second reason come with them by chance, which shows the order of the numbers.
+ */
+#include "steps.h"
+
+#include "mcs48.h"
+
+static void refusable_step(uint64_t tries)
+{
+    random_step(tries);
+    if (one_in(4))
+        step.second |= SECOND_PIN_NONE;
+}
+
+/* States. */
+
+static uint8_t above(uint8_t limit)
+{
+    return (uint8_t)(limit + 1 + below(255u - limit));
+}
+
+/* Puts a field outside its size. */
+static void spoil(enum state_byte field)
+{
+    uint8_t *byte = &step.chip.state[field];
+
+    switch (field) {
+    case BYTE_PC_HIGH:
+        *byte = above(15);
+        break;
+    case BYTE_PSW:
+        *byte &= 0xF7;
+        break;
+    case BYTE_DIVIDER:
+        *byte = above(31);
+        break;
+    case BYTE_COUNTING:
+        *byte = above(2);
+        break;
+    default:
+        *byte = above(field < BYTE_RESERVED ? 1 : 0);
+        break;
+    }
+}
+
+/* A, PC low, T and the latches hold any byte. */
+static bool has_limit(enum state_byte field)
+{
+    return field != BYTE_A && field != BYTE_PC_LOW && field != BYTE_T && field != BYTE_P1 &&
+           field != BYTE_P2 && field != BYTE_BUS;
+}
+
+static void spoiled_case(enum state_byte field)
+{
+    begin_case("state with %s outside its size", state_byte_names[field]);
+    for (uint64_t i = 0; i < count() / 10 && agrees(); i++) {
+        refusable_step(i);
+        spoil(field);
+        if (check_step().number != SECOND_STATE_SIZES)
+            differ("not 3");
+    }
+    end_case();
+}
+
+static void any_state_case(void)
+{
+    begin_case("states with up to three bytes of any kind");
+    for (uint64_t i = 0; i < count() && agrees(); i++) {
+        refusable_step(i);
+        for (unsigned n = below(4); n > 0; n--)
+            step.chip.state[below(STATE_BYTES)] = (uint8_t)random_word();
+        check_step();
+    }
+    end_case();
+}
+
+static void state_length_case(size_t len)
+{
+    begin_case("state of %zu bytes", len);
+    for (uint64_t i = 0; i < count() / 10 && agrees(); i++) {
+        refusable_step(i);
+        step.chip.state_len = len;
+        if (check_step().number != SECOND_STATE_SIZES)
+            differ("not 3");
+    }
+    end_case();
+}
+
+static void state_cases(void)
+{
+    static const size_t lengths[] = {0, 1, 8, 16, 19, 20, 23, 25, 32, 48, STATE_ROOM};
+
+    for (enum state_byte field = 0; field < STATE_BYTES; field++) {
+        if (has_limit(field))
+            spoiled_case(field);
+    }
+    any_state_case();
+    for (size_t i = 0; i < LENGTH(lengths); i++)
+        state_length_case(lengths[i]);
+}
+
+/* Lengths. The allowed ones are among these: so all others are held against them. */
+
+static const size_t lengths[] = {
+    0,    1,    2,    31,   63,   64,   65,   127,  128,  129,           192,
+    255,  256,  257,  512,  1000, 1023, 1024, 1025, 1536, 2047,          2048,
+    2049, 3072, 4095, 4096, 4097, 8192, 65535, 65536, 0x10000 + 64, 0x10000 + 256,
+};
+
+static void program_length_case(size_t len)
+{
+    begin_case("program of %zu bytes", len);
+    for (uint64_t i = 0; i < count() / 10 && agrees(); i++) {
+        refusable_step(i);
+        step.chip.program_len = len;
+        if (one_in(4))
+            spoil(BYTE_DIVIDER);
+        if (one_in(4))
+            step.chip.ram_len = lengths[below(LENGTH(lengths))];
+        check_step();
+    }
+    end_case();
+}
+
+static void ram_length_case(size_t len)
+{
+    begin_case("RAM of %zu bytes", len);
+    for (uint64_t i = 0; i < count() / 10 && agrees(); i++) {
+        refusable_step(i);
+        step.chip.ram_len = len;
+        if (one_in(4))
+            spoil(BYTE_PSW);
+        check_step();
+    }
+    end_case();
+}
+
+/* Lengths that are good in their low 32 bits. To write to such a program or RAM is a fault. */
+static void huge_case(void)
+{
+    const size_t huge = (size_t)1 << 32;
+    const uint8_t *far = zeros(huge + 4096);
+    const struct chip *chip = &step.chip;
+
+    begin_case("lengths above 32 bits");
+    random_step(0);
+    quiet_pins();
+    lend_chip(&lent, chip);
+    for (size_t i = 0; i < 3; i++) {
+        if (mcs48_step(far, huge + program_sizes[i], lent.ram.at, chip->ram_len, lent.state.at,
+                       chip->state_len, step.first, step.second) != SECOND_PROGRAM_LENGTH)
+            differ("a program of 4 GiB and %zu bytes is not refused", program_sizes[i]);
+        if (mcs48_step(lent.program.at, chip->program_len, (uint8_t *)(uintptr_t)far,
+                       huge + ram_sizes[i], lent.state.at, chip->state_len, step.first,
+                       step.second) != SECOND_RAM_LENGTH)
+            differ("a RAM of 4 GiB and %zu bytes is not refused", ram_sizes[i]);
+    }
+    compare_chips(&lent, chip);
+    end_case();
+}
+
+void refusal_cases(void)
+{
+    state_cases();
+    for (size_t i = 0; i < LENGTH(lengths); i++)
+        program_length_case(lengths[i]);
+    program_length_case(0x10000 + 1024);
+    program_length_case(0x10000 + 4096);
+    for (size_t i = 0; i < LENGTH(lengths); i++)
+        ram_length_case(lengths[i]);
+    huge_case();
+}

@@ -1,0 +1,242 @@
+/*
+ * Steps: mcs48_step against second_step, call by call. Compared are the packed answer, the
+ * 24 bytes of the state, all of RAM, and that a refused call has touched nothing.
+ *
+ * --count N: how often each code is carried out. A tenth of it is tried of each refusal.
+ */
+#include "steps.h"
+
+#include "mcs48.h"
+
+#include <stdio.h>
+#include <string.h>
+
+struct step step;
+struct lent_chip lent;
+
+static uint64_t proved_answer;
+static uint64_t second_answer;
+
+static void show_answer(const char *label, uint64_t answer)
+{
+    printf("  %s: number %u, cycles %u, event %u, address %02X, data %02X, all %010llX\n", label,
+           (unsigned)(answer & 0xFF), (unsigned)(answer >> 8 & 0xFF),
+           (unsigned)(answer >> 16 & 0xFF), (unsigned)(answer >> 24 & 0xFF),
+           (unsigned)(answer >> 32 & 0xFF), (unsigned long long)answer);
+}
+
+static void show(void)
+{
+    show_before(&step.chip);
+    printf("  samples %08X %08X\n", (unsigned)step.first, (unsigned)step.second);
+    show_answer("proved", proved_answer);
+    show_answer("second", second_answer);
+    show_after(&lent, &step.chip);
+}
+
+/* What all the steps together have met, so that no edge is missed without notice. */
+
+enum met {
+    RESET_SEEN,
+    EXTERNAL_CALL,
+    TIMER_CALL,
+    EXTERNAL_BEFORE_TIMER,
+    OVERFLOW_IN_FIRST,
+    OVERFLOW_IN_SECOND,
+    FALL_OF_T1,
+    NUMBER_1,
+    NUMBER_6 = NUMBER_1 + 5,
+    MOVX_READ,
+    ANLD = MOVX_READ + 5,
+    MEETINGS
+};
+
+static const char *const meeting_names[MEETINGS] = {
+    "reset",
+    "external call",
+    "timer call",
+    "external before timer",
+    "overflow in the first of two cycles",
+    "in the second",
+    "fall of T1 between them",
+    "number 1",
+    "2",
+    "3",
+    "4",
+    "5",
+    "6",
+    "MOVX read",
+    "MOVX write",
+    "MOVD A,Pp",
+    "MOVD Pp,A",
+    "ORLD",
+    "ANLD",
+};
+
+static uint64_t meetings[MEETINGS];
+
+/* What a step does by document 01 unless it is refused. */
+enum act { RESET, EXTERNAL, TIMER, INSTRUCTION };
+
+static enum act act_of_step(void)
+{
+    const uint8_t *state = step.chip.state;
+
+    if (!(step.first & SECOND_PIN_RESET))
+        return RESET;
+    if (state[BYTE_IN_SERVICE])
+        return INSTRUCTION;
+    if (state[BYTE_EXTERNAL_ENABLED] && !(step.first & SECOND_PIN_INT))
+        return EXTERNAL;
+    if (state[BYTE_TIMER_ENABLED] && state[BYTE_REQUEST])
+        return TIMER;
+    return INSTRUCTION;
+}
+
+static void note_act(enum act act)
+{
+    const uint8_t *state = step.chip.state;
+
+    meetings[RESET_SEEN] += act == RESET;
+    meetings[EXTERNAL_CALL] += act == EXTERNAL;
+    meetings[TIMER_CALL] += act == TIMER;
+    meetings[EXTERNAL_BEFORE_TIMER] +=
+        act == EXTERNAL && state[BYTE_TIMER_ENABLED] && state[BYTE_REQUEST];
+}
+
+/* No instruction of two cycles sets the timer, so what it was before decides. */
+static void note_overflow(void)
+{
+    const uint8_t *state = step.chip.state;
+    bool timer = state[BYTE_COUNTING] == SECOND_TIMER;
+    bool counter = state[BYTE_COUNTING] == SECOND_COUNTER;
+
+    if (state[BYTE_T] != 0xFF)
+        return;
+    meetings[OVERFLOW_IN_FIRST] += timer && state[BYTE_DIVIDER] == 31;
+    meetings[OVERFLOW_IN_SECOND] += timer && state[BYTE_DIVIDER] == 30;
+    meetings[FALL_OF_T1] +=
+        counter && (step.first & SECOND_PIN_T1) && !(step.second & SECOND_PIN_T1);
+}
+
+static void note(struct second_outcome outcome)
+{
+    if (outcome.number != 0) {
+        if (outcome.number <= SECOND_SAMPLE_BITS)
+            meetings[NUMBER_1 + outcome.number - 1]++;
+        return;
+    }
+    note_act(act_of_step());
+    if (outcome.cycles == 2)
+        note_overflow();
+    if (outcome.event != 0 && outcome.event <= SECOND_ANLD)
+        meetings[MOVX_READ + outcome.event - 1]++;
+}
+
+static void meeting_case(void)
+{
+    begin_case("what the steps have met");
+    printf("steps: met");
+    for (int i = 0; i < MEETINGS; i++)
+        printf("%s %s %llu", i == 0 ? "" : ",", meeting_names[i], (unsigned long long)meetings[i]);
+    printf("\n");
+    for (int i = 0; i < MEETINGS; i++) {
+        if (meetings[i] == 0)
+            differ("%s: never", meeting_names[i]);
+    }
+    end_case();
+}
+
+/* One step of both. */
+
+void random_step(uint64_t tries)
+{
+    if (tries % 64 == 0)
+        random_program(&step.chip);
+    random_sizes(&step.chip);
+    random_state(&step.chip);
+    random_ram(&step.chip);
+    step.first = random_sample();
+    step.second = random_sample();
+}
+
+void quiet_pins(void)
+{
+    step.first = (step.first & SECOND_PIN_IDLE) | SECOND_PIN_RESET | SECOND_PIN_INT;
+    step.second = (step.second & SECOND_PIN_IDLE) | SECOND_PIN_RESET | SECOND_PIN_INT;
+}
+
+static uint64_t packed(struct second_outcome outcome)
+{
+    return outcome.number | (uint64_t)outcome.cycles << 8 | (uint64_t)outcome.event << 16 |
+           (uint64_t)outcome.address << 24 | (uint64_t)outcome.data << 32;
+}
+
+/* Against what was lent, not against the second emulator, which could err the same way. */
+static void refused_touches_nothing(void)
+{
+    if (memcmp(lent.state.at, step.chip.state, step.chip.state_len) != 0)
+        differ("refused, and the state is another");
+    if (memcmp(lent.ram.at, step.chip.ram, step.chip.ram_len) != 0)
+        differ("refused, and the RAM is another");
+}
+
+struct second_outcome check_step(void)
+{
+    const struct chip *chip = &step.chip;
+
+    lend_chip(&lent, chip);
+    proved_answer = second_answer = 0;
+    proved_answer = mcs48_step(lent.program.at, chip->program_len, lent.ram.at, chip->ram_len,
+                               lent.state.at, chip->state_len, step.first, step.second);
+    struct second_outcome outcome =
+        second_step(chip->program, chip->program_len, lent.second_ram, chip->ram_len,
+                    &lent.second_state, step.first, step.second);
+    second_answer = packed(outcome);
+
+    if (proved_answer != second_answer)
+        differ("the answer differs");
+    if ((proved_answer & 0xFF) != 0)
+        refused_touches_nothing();
+    compare_chips(&lent, chip);
+    note(outcome);
+    return outcome;
+}
+
+/* Codes. */
+
+/* Has the step come as far as its code? */
+static bool reached(struct second_outcome outcome)
+{
+    return act_of_step() == INSTRUCTION &&
+           (outcome.number == SECOND_ACCEPTED || outcome.number == SECOND_UNDEFINED_CODE);
+}
+
+static void code_case(uint8_t code)
+{
+    uint64_t times = 0;
+
+    begin_case("%s code %02X", is_defined(code) ? "defined" : "undefined", code);
+    for (uint64_t tries = 0; times < count() && agrees(); tries++) {
+        random_step(tries);
+        put_code(&step.chip, code);
+        times += reached(check_step());
+        if (tries > 100 * (times + 10))
+            differ("too few steps come as far as the code");
+    }
+    end_case();
+}
+
+int main(int argc, char **argv)
+{
+    static const struct driver driver = {"steps", 10000, show};
+
+    start(&driver, argc, argv);
+    new_rooms(&lent);
+    for (unsigned code = 0; code < 256; code++)
+        code_case((uint8_t)code);
+    edge_cases();
+    refusal_cases();
+    meeting_case();
+    return finish();
+}

@@ -1,0 +1,30 @@
+/*
+ * The step under way, which the files of the driver steps share.
+ */
+#ifndef STEPS_H
+#define STEPS_H
+
+#include "chips.h"
+
+struct step {
+    struct chip chip;
+    uint32_t first;
+    uint32_t second;
+};
+
+extern struct step step;
+extern struct lent_chip lent;
+
+/* A random step; the program stays for 64 tries, since a whole one costs more than a step. */
+void random_step(uint64_t tries);
+
+/* No reset, no external interrupt, no bit 28 to 31. */
+void quiet_pins(void);
+
+/* Gives the step to both emulators and compares all that they answer and leave. */
+struct second_outcome check_step(void);
+
+void edge_cases(void);
+void refusal_cases(void);
+
+#endif

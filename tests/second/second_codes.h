@@ -1,0 +1,30 @@
+/*
+ * Second emulator of the MCS-48: what its files share and its callers don't see.
+ *
+ * Written from document 01 (the scope) and our readings of it alone, without a look at
+ * the Rattle sources.
+ */
+#ifndef SECOND_CODES_H
+#define SECOND_CODES_H
+
+#include "second.h"
+
+enum {
+    PC_BANK = 0x800,    /* bit 11, which doesn't count */
+    PC_COUNTED = 0x7FF, /* the bits that do */
+    PC_PAGE = 0xF00,
+    PROGRAM_MAX = 4096
+};
+
+struct second_code {
+    enum second_operation operation;
+    uint8_t length; /* 0: undefined */
+    uint8_t cycles;
+};
+
+extern const struct second_code second_codes[256];
+
+/* The address after pc: the low 11 bits count and wrap, bit 11 stays. (second_step.c) */
+uint16_t second_next_pc(uint16_t pc);
+
+#endif
