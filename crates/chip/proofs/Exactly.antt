@@ -25,7 +25,7 @@ use Rattle.effects.specs.declared.Event.the-variants.{Quiet}
 use Rattle.effects.specs.declared.Write.the-variants.{Nothing}
 use Rattle.flow.specs.Stack.{pushed}
 use Rattle.execute.specs.Execute.{executed}
-use Rattle.chip.specs.Admission.{programAllowed, ramAllowed, sampleAllowed, standing, admission}
+use Rattle.chip.specs.Admission.{programAllowed, ramAllowed, sampleAllowed, sampleNumber, standing, admission}
 use Rattle.chip.specs.Refusals.{Fetches, Gives, program-length, ram-length, state-outside, sample-bits, no-first-byte, undefined-code, no-second-byte, no-table-byte}
 use Rattle.chip.specs.Step.{externalCalls, timerCalls, pcAfter, resetState, called, withoutRequest, declined, accepted, done, carriedBy, carried, course, planBy, planOf, stepOf, ramAfter, written}
 use Rattle.chip.specs.declared.Course.{Course}
@@ -149,6 +149,19 @@ module _ (program ram : List ℕ) (s : State) (first second : ℕ) where
       go true false q hp hr hq e = absurd (omega arith)
       go true true false hp hr hq e = absurd (omega arith)
       go true true true hp hr hq e = record { program-allowed = hp; ram-allowed = hr; state-permitted = hq }
+
+  -- Where 1, 2 and 3 are not given, the samples alone decide.
+  pub samples-decide : standing (length program) (length ram) s ≡ 0 → admission (length program) (length ram) s first second ≡ sampleNumber first second
+  unfolding admission pick
+  samples-decide h = rw h
+
+  -- Where one of them is given, it is the step's.
+  pub standing-refuses :
+      (standing (length program) (length ram) s ≡ 0 → ⊥)
+      → (stepOf program ram s first second ≡ record { number = standing (length program) (length ram) s; state = s; event = Quiet; cycles = 0 })
+      × (ramAfter program ram s first second ≡ ram)
+  unfolding course admission declined planBy written pick
+  standing-refuses z = (simp (ne-eqb (standing (length program) (length ram) s) 0 z), simp (ne-eqb (standing (length program) (length ram) s) 0 z))
 
   pub admitted-stands : admission (length program) (length ram) s first second ≡ 0 → standing (length program) (length ram) s ≡ 0
   unfolding admission pick

@@ -10,7 +10,7 @@ use lib.ListN.{length, getD, set, drop, length-set, length-append}
 use borrow.Author.Tests.{eqb-true, eqb-false, not-true, not-false, ltb-true, lt-ltb, eq-eqb}
 use Rattle.isa.specs.Choice.{pick}
 use Rattle.isa.specs.Numbers.{Answer, given, refused}
-use Rattle.isa.specs.Reading.{Sized, sized, nextPc, Bytes, instructionAt}
+use Rattle.isa.specs.Reading.{Sized, sized, nextPc, instructionAt}
 use Rattle.isa.proofs.Finding.{refused-some}
 use Rattle.machine.specs.Counting.{counted}
 use Rattle.machine.specs.State.{permitted, withPc, withInterrupts}
@@ -23,10 +23,12 @@ use Rattle.effects.specs.declared.Effect.{Effect}
 use Rattle.effects.specs.declared.Write.{Write}
 use Rattle.effects.specs.declared.Write.the-variants.{Nothing, Byte, Pair}
 use Rattle.execute.proofs.Within.{Within, WithinSizes, push-within, within}
+use Rattle.chip.specs.Admission.{standing}
 use Rattle.chip.specs.Run.{Standing, begun, standingOf, runOver}
 use Rattle.chip.specs.History.{Steps, none, more, Reads, HistoryOf}
-use Rattle.chip.specs.Step.{declined, accepted, resetState, called, withoutRequest, pcAfter, done, carriedBy, carried, course, ticked, settled, planBy, planOf, ramAfter, written}
+use Rattle.chip.specs.Step.{declined, accepted, resetState, called, withoutRequest, pcAfter, done, carriedBy, carried, course, ticked, settled, planBy, planOf, stepOf, ramAfter, written}
 use Rattle.chip.specs.declared.Course.{Course}
+use Rattle.chip.specs.declared.Outcome.{Outcome}
 use Rattle.chip.specs.declared.Plan.{Plan}
 use Rattle.chip.proofs.Choices.{either}
 use Rattle.chip.proofs.Cycles.{course-number, plan-state}
@@ -85,20 +87,20 @@ next-within pc l = omega arith
 after-within : (n pc : ℕ) → pc < 4096 → pcAfter n pc < 4096
 after-within n pc l = either (λ (x : ℕ). x < 4096) _ _ _ (λ t. next-within pc l) (λ t. next-within (nextPc pc) (next-within pc l))
 
-carried-fits : (program ram : List ℕ) (s : State) (first second : ℕ) → WithinSizes s → Bytes ram → Fits (carried program ram s first second)
+carried-fits : (program ram : List ℕ) (s : State) (first second : ℕ) → WithinSizes s → Fits (carried program ram s first second)
 unfolding carried
-carried-fits program ram s first second h b = go (instructionAt program (s .pc)) refl
+carried-fits program ram s first second h = go (instructionAt program (s .pc)) refl
   where
     go : (a : Answer Sized) → instructionAt program (s .pc) ≡ a → Fits (carriedBy a program ram s first second)
     go (refused n) e = declined-fits n s (refused-some program (s .pc) n e)
     go (given (sized i n)) e =
         done-fits _ _ s
         (within i program ram (withPc s (pcAfter n (s .pc))) (s .pc) first second
-        (record { address = after-within n (s .pc) (h .address); divides = h .divides; bit-3 = h .bit-3 }) (h .address) b)
+        (record { address = after-within n (s .pc) (h .address); divides = h .divides; bit-3 = h .bit-3 }) (h .address))
 
-course-fits : (program ram : List ℕ) (s : State) (first second : ℕ) → Bytes ram → Fits (course program ram s first second)
+course-fits : (program ram : List ℕ) (s : State) (first second : ℕ) → Fits (course program ram s first second)
 unfolding course
-course-fits program ram s first second b =
+course-fits program ram s first second =
     either Fits _ _ _ (λ t. declined-fits _ s (eqb-false _ _ (not-true _ t)))
     (λ t.
     let w = stands program ram s first second (admitted-stands program ram s first second (eqb-true _ _ (not-false _ t))) in
@@ -106,7 +108,7 @@ course-fits program ram s first second b =
     either Fits _ _ _ (λ u. accepted-fits _ 1 (reset-within s h))
     (λ u. either Fits _ _ _ (λ v. accepted-fits _ 2 (called-within s 3 h (lit≤ tt)))
     (λ v. either Fits _ _ _ (λ x. accepted-fits _ 2 (called-within (withoutRequest s) 7 (request-within s h) (lit≤ tt)))
-    (λ x. carried-fits program ram s first second h b))))
+    (λ x. carried-fits program ram s first second h))))
 
 -- Counting leaves the divider below 32.
 counted-divider : (mode : Counting) (x : Count) (t1 enabled : Bool) → x .divider < 32 → counted mode x t1 enabled .divider < 32
@@ -133,13 +135,13 @@ settled-within s cycles fresh first second h =
     }
 
 pub accepted-permitted :
-    (program ram : List ℕ) (s : State) (first second : ℕ) → Bytes ram → planOf program ram s first second .number ≡ 0
+    (program ram : List ℕ) (s : State) (first second : ℕ) → planOf program ram s first second .number ≡ 0
     → permitted (planOf program ram s first second .state) ≡ true
-accepted-permitted program ram s first second b a =
+accepted-permitted program ram s first second a =
     let n = course-number (course program ram s first second) s first second a in
     ap permitted (plan-state (course program ram s first second) s first second n)
     ∙ within-permitted (settled _ _ _ first second)
-    (settled-within (course program ram s first second .state) _ _ first second (course-fits program ram s first second b .sizes n))
+    (settled-within (course program ram s first second .state) _ _ first second (course-fits program ram s first second .sizes n))
 
 -- ---- RAM keeps its length
 pub written-length : (ram : List ℕ) (w : Write) → length (written ram w) ≡ length ram
@@ -150,6 +152,17 @@ written-length ram (Pair at low high) = length-set (set ram at low) (at + 1) hig
 
 pub ram-length : (program ram : List ℕ) (s : State) (first second : ℕ) → length (ramAfter program ram s first second) ≡ length ram
 ram-length program ram s first second = written-length ram _
+
+-- So 1, 2 and 3, once not given, are not given again: of what a call of the step answered and the RAM that it left.
+pub still-stands :
+    (program ram : List ℕ) (s : State) (first second : ℕ) (r : Outcome) (left : List ℕ) → r ≡ stepOf program ram s first second
+    → left ≡ ramAfter program ram s first second → r .number ≡ 0 → standing (length program) (length ram) s ≡ 0
+    → standing (length program) (length left) (r .state) ≡ 0
+unfolding standing pick
+still-stands program ram s first second r left er el a z =
+    let w = stands program ram s first second z in
+    let p = accepted-permitted program ram s first second (rw er at a) in
+    rw (er, el, ram-length program ram s first second, w .program-allowed, w .ram-allowed, p)
 
 -- ---- a run over samples cut in two is the run over the whole
 at-front : (xs ys : List ℕ) (i : ℕ) → i < length xs → getD (xs ++ ys) i 0 ≡ getD xs i 0

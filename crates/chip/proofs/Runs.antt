@@ -13,6 +13,7 @@ use Rattle.chip.specs.Run.{Standing, Ended, gone, ended, runOver}
 use Rattle.chip.specs.Step.{planOf, stepOf, ramAfter, written}
 use Rattle.chip.specs.declared.Outcome.{Outcome}
 use Rattle.chip.specs.declared.Plan.{Plan}
+use Rattle.chip.proofs.Exactly.{refused-unchanged}
 use Rattle.chip.proofs.Lasting.{Busy, plan-busy}
 
 skips : (program xs : List ℕ) (k : ℕ) (m : Standing) → runOver program xs k m ≡ runOver program (drop k xs) 0 m
@@ -92,5 +93,7 @@ module _ (program samples : List ℕ) (i : ℕ) (m : Standing) where
     pub halted :
         i + 1 < length samples → (r .number ≡ 0 → ⊥)
         → runOver program (drop i samples) 0 m
-        ≡ ended (record { ram = left; state = m .state; used = m .used; cycles = m .cycles; event = m .event }) (r .number)
-    halted h n = run-refused h (rw er at n) ∙ rw (unmoved n, er)
+        ≡ ended (record { ram = left; state = r .state; used = m .used; cycles = m .cycles; event = m .event }) (r .number)
+    halted h n =
+        let u = refused-unchanged program (m .ram) (m .state) (getD samples i 0) (getD samples (i + 1) 0) (rw er at n) in
+        run-refused h (rw er at n) ∙ rw (unmoved n, er, u .state)

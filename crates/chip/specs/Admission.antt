@@ -26,8 +26,10 @@ standing program ram s =
     (pick (not (ramAllowed ram)) 2
     (pick (not (permitted s)) 3 0))
 
--- The same, and the two samples that the step is given.
+-- The number that the two samples give, which the step is given.
+abbrev pub sampleNumber : ℕ → ℕ → ℕ
+sampleNumber first second = pick (not (sampleAllowed first && sampleAllowed second)) 6 0
+
+-- Both, in this order.
 unfoldable pub admission : ℕ → ℕ → State → ℕ → ℕ → ℕ
-admission program ram s first second =
-    pick (not (eqb (standing program ram s) 0)) (standing program ram s)
-    (pick (not (sampleAllowed first && sampleAllowed second)) 6 0)
+admission program ram s first second = pick (not (eqb (standing program ram s) 0)) (standing program ram s) (sampleNumber first second)

@@ -9,7 +9,9 @@ use machine::Interrupts;
 use machine::Ports;
 use machine::State;
 ghost use mathlib.Core.Path.{_≡_};
+ghost use lib.ListN.{length};
 ghost use Rattle.isa.specs.Table.{packedRows};
+ghost use Rattle.chip.specs.Admission.{standing};
 ghost use Rattle.chip.specs.Step.{declined, accepted, resetState, called, withoutRequest, done, carried, course};
 
 fn decline(number: u8, s: State) -> Course
@@ -134,9 +136,10 @@ pub fn course_of(
     second: u32,
 ) -> Course
     requires { ⌜ now table ≡ packedRows ⌝ }
+    requires { ⌜ standing (length (now program)) (length (now ram)) s ≡ 0 ⌝ }
     ensures { λ r. ⌜ r ≡ course (now (program .entry)) (now (ram .entry)) s first second ⌝ }
 {
-    let number = crate::admission::admission_number(program.len(), ram.len(), s, first, second);
+    let number = crate::admission::sample_number(first, second);
     if number != 0 {
         return decline(number, s);
     }

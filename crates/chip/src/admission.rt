@@ -2,7 +2,7 @@
 use isa::Refusal;
 use machine::State;
 ghost use mathlib.Core.Path.{_≡_};
-ghost use Rattle.chip.specs.Admission.{standing, admission};
+ghost use Rattle.chip.specs.Admission.{standing, sampleNumber};
 
 // 1, 2 or 3; 0 if none.
 pub fn standing_number(program: usize, ram: usize, s: State) -> u8
@@ -23,14 +23,10 @@ pub fn standing_number(program: usize, ram: usize, s: State) -> u8
     0
 }
 
-// The same, or 6 for the samples.
-pub fn admission_number(program: usize, ram: usize, s: State, first: u32, second: u32) -> u8
-    ensures { λ n. ⌜ n ≡ admission program ram s first second ⌝ }
+// 6 for the samples; 0 if they are allowed.
+pub fn sample_number(first: u32, second: u32) -> u8
+    ensures { λ n. ⌜ n ≡ sampleNumber first second ⌝ }
 {
-    let n = standing_number(program, ram, s);
-    if n != 0 {
-        return n;
-    }
     let plain = (first < 0x1000_0000) & (second < 0x1000_0000);
     if !plain {
         return isa::number(Refusal::SampleBits);

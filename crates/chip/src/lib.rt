@@ -6,7 +6,9 @@ use machine::Counting;
 use machine::State;
 use machine::cycle::count_cycle;
 ghost use mathlib.Core.Path.{_≡_};
+ghost use lib.ListN.{length};
 ghost use Rattle.isa.specs.Table.{packedRows};
+ghost use Rattle.chip.specs.Admission.{standing};
 ghost use Rattle.chip.specs.Run.{begun, runOver, runOf};
 ghost use Rattle.chip.specs.Step.{planOf, stepOf, ramAfter, settled, ticked};
 
@@ -110,6 +112,7 @@ fn plan_step(
     second: u32,
 ) -> Plan
     requires { ⌜ now table ≡ packedRows ⌝ }
+    requires { ⌜ standing (length (now program)) (length (now ram)) s ≡ 0 ⌝ }
     ensures { λ r. ⌜ r ≡ planOf (now (program .entry)) (now (ram .entry)) s first second ⌝ }
 {
     let c = acting::course_of(table, program, ram, s, first, second);
@@ -143,6 +146,7 @@ fn do_step(
     second: u32,
 ) -> Outcome
     requires { ⌜ now table ≡ packedRows ⌝ }
+    requires { ⌜ standing (length (now program)) (length (now ram)) s ≡ 0 ⌝ }
     ensures answer { λ r. ⌜ r ≡ stepOf (now (program .entry)) (now (ram .entry)) s first second ⌝ }
     ensures memory { λ r. ⌜ now (ram .exit) ≡ ramAfter (now (program .entry)) (now (ram .entry)) s first second ⌝ }
 {
@@ -164,41 +168,50 @@ pub fn step(program: &[u8], ram: &mut [u8], state: State, first: u32, second: u3
     ensures answer { λ r. ⌜ r ≡ stepOf (now (program .entry)) (now (ram .entry)) state first second ⌝ }
     ensures memory { λ r. ⌜ now (ram .exit) ≡ ramAfter (now (program .entry)) (now (ram .entry)) state first second ⌝ }
 {
+    let refused = admission::standing_number(program.len(), ram.len(), state);
+    if refused != 0 {
+        return Outcome {
+            number: refused,
+            state,
+            event: Event::Quiet,
+            cycles: 0,
+        };
+    }
     let table = isa::table::opcodes();
     do_step(&table, program, ram, state, first, second)
 }
 
-// Steps while two samples remain, or until a refusal.
+// Steps while two samples remain, or until a refusal. Each machine cycle uses one sample.
 fn run_on(table: &[u16; 256], program: &[u8], ram: &mut [u8], start: State, samples: &[u32]) -> Ran
     requires { ⌜ now table ≡ packedRows ⌝ }
+    requires { ⌜ standing (length (now program)) (length (now ram)) start ≡ 0 ⌝ }
     ensures answer { λ r. ⌜ r ≡ runOver (now (program .entry)) (now (samples .entry)) 0 (begun (now (ram .entry)) start) .ran ⌝ }
     ensures memory { λ r. ⌜ now (ram .exit) ≡ runOver (now (program .entry)) (now (samples .entry)) 0 (begun (now (ram .entry)) start) .ram ⌝ }
 {
     let mut state = start;
     let mut event = Event::Quiet;
     let mut i: usize = 0;
-    let mut cycles: u64 = 0;
     while i + 1 < samples.len() {
         let r = do_step(table, program, ram, state, samples[i], samples[i + 1]);
+        // A refused step gives back the state it got. Taken from the answer, the state before need not be kept beside the new one.
+        state = r.state;
         if r.number != 0 {
             return Ran {
                 number: r.number,
                 state,
                 used: i,
-                cycles,
+                cycles: i as u64,
                 event,
             };
         }
-        state = r.state;
         event = r.event;
         i += r.cycles as usize;
-        cycles += r.cycles as u64;
     }
     Ran {
         number: 0,
         state,
         used: i,
-        cycles,
+        cycles: i as u64,
         event,
     }
 }

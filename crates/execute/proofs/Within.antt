@@ -7,7 +7,6 @@ use mathlib.Core.Path.{_≡_, refl}
 use native.Mathlib.Omega.{arith}
 use lib.Dec.{lit≤}
 use Rattle.isa.specs.Choice.{pick}
-use Rattle.isa.specs.Reading.{Bytes, byteAt}
 use Rattle.isa.specs.declared.Condition.{Condition}
 use Rattle.isa.specs.declared.Condition.the-variants.{Jb, Jc, Jf0, Jf1, Jnc, Jni, Jnt0, Jnt1, Jnz, Jtf, Jt0, Jt1, Jz}
 use Rattle.isa.specs.declared.Digit.{Digit}
@@ -81,8 +80,8 @@ unfolding pick
 far true a = omega arith
 far false a = omega arith
 
-back : (low high : ℕ) → low < 256 → low + high % 16 * 256 < 4096
-back low high l = omega arith
+back : (low high : ℕ) → low % 256 + high % 16 * 256 < 4096
+back low high = omega arith
 
 either : (b : Bool) (x y : Effect) → WithinSizes (x .state) → WithinSizes (y .state) → WithinSizes (pick b x y .state)
 unfolding pick
@@ -177,37 +176,37 @@ pub push-within : (s : State) (to : ℕ) → WithinSizes s → to < 4096 → Wit
 unfolding pushed
 push-within s to h l = at-pc (at-psw h (sp-bit-3 (s .psw) _ (h .bit-3))) l
 
-pub within : (i : Instruction) (program ram : List ℕ) (s : State) (base first second : ℕ) → WithinSizes s → base < 4096 → Bytes ram → WithinSizes (executed i program ram s base first second .state)
+pub within : (i : Instruction) (program ram : List ℕ) (s : State) (base first second : ℕ) → WithinSizes s → base < 4096 → WithinSizes (executed i program ram s base first second .state)
 unfolding executed
-within (Alu op from) program ram s base first second h l b = operated-within s h op _
-within (Accumulator op) program ram s base first second h l b = changed-within s h op
-within (Djnz r d) program ram s base first second h l b = jump-within s h _ base d l
-within (Branch c d) program ram s base first second h l b = branched-within c s base d first h l
-within (Jmp a) program ram s base first second h l b = at-pc h (far _ a)
-within Jmpp program ram s base first second h l b = either _ _ _ (at-pc h l) (at-pc h (in-page base _ l))
-within (Control op) program ram s base first second h l b = switched-within s h op
-within (MovA from) program ram s base first second h l b = h
-within (Mov to) program ram s base first second h l b = h
-within (MovData to d) program ram s base first second h l b = h
-within MovAPsw program ram s base first second h l b = h
-within MovPswA program ram s base first second h l b = at-psw h (high-bit-3 (s .a))
-within Movp program ram s base first second h l b = either _ _ _ (at-pc h l) h
-within Movp3 program ram s base first second h l b = either _ _ _ (at-pc h l) h
-within (MovxRead r) program ram s base first second h l b = h
-within (MovxWrite r) program ram s base first second h l b = h
-within (Xch with) program ram s base first second h l b = h
-within (Xchd r) program ram s base first second h l b = h
-within (Cpl g) program ram s base first second h l b = complemented-within s h g
-within (Clr g) program ram s base first second h l b = cleared-within s h g
-within (Logic op to d) program ram s base first second h l b = output-within s h to _
-within (In from) program ram s base first second h l b = input-within s h from second
-within (Outl to) program ram s base first second h l b = output-within s h to _
-within (Expander op p) program ram s base first second h l b = expander-within s h op p second
-within (Dec r) program ram s base first second h l b = h
-within (Inc c) program ram s base first second h l b = h
-within (Call a) program ram s base first second h l b = push-within s _ h (far _ a)
-within Ret program ram s base first second h l b = at-pc (at-psw h (sp-bit-3 (s .psw) _ (h .bit-3))) (back _ _ (b _))
-within Retr program ram s base first second h l b = at-pc (at-psw h (restored-bit-3 _ (s .psw) _ (h .bit-3))) (back _ _ (b _))
-within MovAT program ram s base first second h l b = h
-within MovTA program ram s base first second h l b = h
-within Nop program ram s base first second h l b = h
+within (Alu op from) program ram s base first second h l = operated-within s h op _
+within (Accumulator op) program ram s base first second h l = changed-within s h op
+within (Djnz r d) program ram s base first second h l = jump-within s h _ base d l
+within (Branch c d) program ram s base first second h l = branched-within c s base d first h l
+within (Jmp a) program ram s base first second h l = at-pc h (far _ a)
+within Jmpp program ram s base first second h l = either _ _ _ (at-pc h l) (at-pc h (in-page base _ l))
+within (Control op) program ram s base first second h l = switched-within s h op
+within (MovA from) program ram s base first second h l = h
+within (Mov to) program ram s base first second h l = h
+within (MovData to d) program ram s base first second h l = h
+within MovAPsw program ram s base first second h l = h
+within MovPswA program ram s base first second h l = at-psw h (high-bit-3 (s .a))
+within Movp program ram s base first second h l = either _ _ _ (at-pc h l) h
+within Movp3 program ram s base first second h l = either _ _ _ (at-pc h l) h
+within (MovxRead r) program ram s base first second h l = h
+within (MovxWrite r) program ram s base first second h l = h
+within (Xch with) program ram s base first second h l = h
+within (Xchd r) program ram s base first second h l = h
+within (Cpl g) program ram s base first second h l = complemented-within s h g
+within (Clr g) program ram s base first second h l = cleared-within s h g
+within (Logic op to d) program ram s base first second h l = output-within s h to _
+within (In from) program ram s base first second h l = input-within s h from second
+within (Outl to) program ram s base first second h l = output-within s h to _
+within (Expander op p) program ram s base first second h l = expander-within s h op p second
+within (Dec r) program ram s base first second h l = h
+within (Inc c) program ram s base first second h l = h
+within (Call a) program ram s base first second h l = push-within s _ h (far _ a)
+within Ret program ram s base first second h l = at-pc (at-psw h (sp-bit-3 (s .psw) _ (h .bit-3))) (back _ _)
+within Retr program ram s base first second h l = at-pc (at-psw h (restored-bit-3 _ (s .psw) _ (h .bit-3))) (back _ _)
+within MovAT program ram s base first second h l = h
+within MovTA program ram s base first second h l = h
+within Nop program ram s base first second h l = h

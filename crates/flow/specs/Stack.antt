@@ -27,7 +27,7 @@ abbrev pub spBelow : State → ℕ
 spBelow s = (sp (s .psw) + 7) % 8
 
 abbrev pub lowByte : State → List ℕ → ℕ
-lowByte s ram = cellAt ram (8 + spBelow s * 2)
+lowByte s ram = cellAt ram (8 + spBelow s * 2) % 256
 
 abbrev pub highByte : State → List ℕ → ℕ
 highByte s ram = cellAt ram (8 + spBelow s * 2 + 1)

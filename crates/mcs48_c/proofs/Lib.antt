@@ -1,4 +1,3 @@
-pub mod Again
 pub mod Copying
 pub mod Lines
 pub mod OneStep

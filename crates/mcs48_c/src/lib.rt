@@ -1,12 +1,11 @@
 // The C interface. include/mcs48.h documents each function for its users.
 use effects::Event;
-use isa::Decoded;
+use isa::Refusal;
 use listing::Listed;
 use machine::State;
-use writer::Written;
 ghost use mathlib.Core.Path.{_≡_};
 ghost use lib.ListN.{length};
-ghost use Rattle.isa.specs.Reading.{readOf};
+ghost use Rattle.isa.specs.Reading.{byteAt, decodedAt, readOf};
 ghost use Rattle.machine.specs.State.{powerUp};
 ghost use Rattle.chip.specs.Step.{ramAfter};
 ghost use Rattle.listing.specs.Listing.{lineAfter, listedOf};
@@ -15,7 +14,7 @@ ghost use Rattle.mcs48_c.specs.Calls.{afterRun, afterStep, runFrom, spen
 ghost use Rattle.mcs48_c.specs.Packed.{packedLine, packedRead, packedStep};
 
 mod bytes; // the machine state as 24 bytes
-mod packing; // answers packed into one number
+pub mod packing; // answers packed into one number
 
 // The state after power-up, into a buffer of 24 bytes.
 #[no_mangle]
@@ -25,19 +24,39 @@ pub extern "C" fn mcs48_power_up(state: &mut [u8])
     bytes::hold(state, State::power_up());
 }
 
-// The instruction at an address, read, and written again by the writer.
+// The instruction whose first byte, at `pc`, is `code`.
+fn read_at(program: &[u8], pc: u16, code: u8) -> u64
+    requires { ⌜ code ≡ byteAt (now program) pc ⌝ }
+    ensures { λ r. ⌜ r ≡ packedRead (now (program .entry)) pc (decodedAt (now (program .entry)) pc code) ⌝ }
+{
+    let e = isa::table::entry_of(code);
+    let bytes = e.bytes;
+    if bytes == 0 {
+        return packing::pack_refusal(Refusal::UndefinedCode);
+    }
+    if bytes == 1 {
+        return packing::pack(0, 1, code, 0, 0);
+    }
+    let next = isa::next_pc(pc) as usize;
+    if program.len() <= next {
+        return packing::pack_refusal(Refusal::PastEnd);
+    }
+    packing::pack(0, 2, code, program[next], 0)
+}
+
+// The instruction at an address: its length, and the bytes that the writer gives for it, which are those that stand there (`read-write`). A
+// call of the reader and the writer would say the same, but give the decoder a second caller (docs/PERFORMANCE.md).
 #[no_mangle]
 pub extern "C" fn mcs48_read(program: &[u8], address: usize) -> u64
     ensures { λ r. ⌜ r ≡ packedRead (now (program .entry)) address (readOf (now (program .entry)) address) ⌝ }
 {
-    match isa::read(program, address) {
-        Decoded::Found(i, n) => match writer::write(i) {
-            Written::One(b) => packing::pack(0, n, b, 0, 0),
-            Written::Two(b, d) => packing::pack(0, n, b, d, 0),
-            Written::Unwritten(r) => packing::pack_refusal(r),
-        },
-        Decoded::Unread(r) => packing::pack_refusal(r),
+    if 4096 < program.len() {
+        return packing::pack_refusal(Refusal::ProgramLength);
     }
+    if program.len() <= address {
+        return packing::pack_refusal(Refusal::PastEnd);
+    }
+    read_at(program, address as u16, program[address])
 }
 
 // One line of a listing, into a buffer.

@@ -1,71 +1,73 @@
--- `chip::run_on` meets its contract. The loop's invariant: the run from here on is the run from the start. Each turn is a law of Runs.
+-- `chip::run_on` meets its contract. The loop's invariant: the run from here on is the run from the start, and 1, 2 and 3 are not given.
+-- Each turn is a law of Runs or of Laws.
 -- Assumes nothing.
 use Prim.Native.Nat.{ℕ, _+_, _-_, _≤_}
 use denote.Ref.{now}
 use mathlib.Core.Path.{_≡_, refl, sym, ap, _∙_}
 use native.Mathlib.Omega.{arith}
-use lib.ListN.{length, drop}
+use lib.ListN.{length, getD, drop}
 use borrow.Author.Needs.{needs}
+use Rattle.chip.specs.Admission.{standing}
 use Rattle.chip.specs.Run.{Standing, Ended, begun, runOver}
+use Rattle.chip.proofs.Laws.{still-stands}
 use Rattle.chip.proofs.Runs.{run-short, spent, went, halted}
 use Rattle.chip.proofs.run_on.Statement.{statement}
 use Rattle.chip.proofs.run_on.Tie as tie
 
 abbrev Inv-loop : tie.InvT-loop
-Inv-loop table program ram₀ samples state₀ event₀ i₀ cycles₀ ram state event i cycles =
-    (length ram ≡ length ram₀) × (i ≤ length samples) × (cycles ≡ i)
-    × (runOver program (drop i samples) 0 (record { ram = ram; state = state; used = i; cycles = cycles; event = event })
+Inv-loop table program ram₀ samples state₀ event₀ i₀ ram state event i =
+    (length ram ≡ length ram₀) × (i ≤ length samples) × (standing (length program) (length ram) state ≡ 0)
+    × (runOver program (drop i samples) 0 (record { ram = ram; state = state; used = i; cycles = i; event = event })
     ≡ runOver program samples 0 (begun ram₀ state₀))
 
 abbrev μ-loop : tie.MeasureT-loop
-μ-loop table program ram₀ samples state₀ event₀ i₀ cycles₀ ram state event i cycles = length samples - i
+μ-loop table program ram₀ samples state₀ event₀ i₀ ram state event i = length samples - i
 
 loop-holds : tie.Need-loop-holds Inv-loop μ-loop
-loop-holds c = (refl, omega arith, refl, refl)
+loop-holds c = (refl, omega arith, c .before .before .before .pre .1, refl)
+
+do-step-requires : tie.Need-do-step-requires Inv-loop μ-loop
+do-step-requires c κs = (c .before .before .before .before .before .before .before .before .pre .0, c .before .before .before .before .loop .inv .2)
 
 -- At the branch that was not taken: the step's cycles are one or two.
-spent-at : (c : tie.Else1 Inv-loop μ-loop) → (1 ≤ c .before .before .before .before .do-step .result .cycles) × (c .before .before .before .before .do-step .result .cycles ≤ 2)
+spent-at : (c : tie.Else1 Inv-loop μ-loop) → (1 ≤ c .before .before .before .before .before .do-step .result .cycles) × (c .before .before .before .before .before .do-step .result .cycles ≤ 2)
 spent-at c =
-    let a = c .before .before .before .before .before .before .before .before .before .before .before .before .before .args in
-    let l = c .before .before .before .before .before .before .before .before .before .loop in
-    let d = c .before .before .before .before .do-step in
+    let a = c .before .before .before .before .before .before .before .before .before .before .before .before .before .before .args in
+    let l = c .before .before .before .before .before .before .before .before .before .before .loop in
+    let d = c .before .before .before .before .before .do-step in
     spent (now (a .program)) (now (a .samples)) (l .i)
-    (record { ram = l .ram; state = l .state; used = l .i; cycles = l .cycles; event = l .event }) (d .result) (d .last .1 .1 .0)
+    (record { ram = l .ram; state = l .state; used = l .i; cycles = l .i; event = l .event }) (d .result) (d .last .1 .1 .0)
     (d .ensures .0) (d .ensures .1) (c .if1 .left)
 
 refused : tie.Need-returns Inv-loop μ-loop
 refused c =
-    let a = c .before .before .before .before .before .before .before .before .before .before .before .before .before .args in
-    let l = c .before .before .before .before .before .before .before .before .before .loop in
-    let d = c .before .before .before .before .do-step in
+    let a = c .before .before .before .before .before .before .before .before .before .before .before .before .before .before .args in
+    let l = c .before .before .before .before .before .before .before .before .before .before .loop in
+    let d = c .before .before .before .before .before .do-step in
     let e =
     halted (now (a .program)) (now (a .samples)) (l .i)
-    (record { ram = l .ram; state = l .state; used = l .i; cycles = l .cycles; event = l .event }) (d .result) (d .last .1 .1 .0)
-    (d .ensures .0) (d .ensures .1) (c .before .before .before .before .before .before .before .before .loop-test .taken) (c .if1 .taken)
+    (record { ram = l .ram; state = l .state; used = l .i; cycles = l .i; event = l .event }) (d .result) (d .last .1 .1 .0)
+    (d .ensures .0) (d .ensures .1) (c .before .before .before .before .before .before .before .before .before .loop-test .taken) (c .if1 .taken)
     in
     (ap (λ (r : Ended). r .ran) (sym e ∙ l .inv .3), ap (λ (r : Ended). r .ram) (sym e ∙ l .inv .3))
 
 add-i : tie.Need-add-i Inv-loop μ-loop
-add-i c = omega (arith, spent-at (c .before .before) .1, c .before .before .before .before .before .before .before .before .before .before .loop-test .taken, c .before .before .before .before .before .before .before .before .before .before .before .before .before .before .before .good .1 .1 .1 .1)
-
-add-cycles : tie.Need-add-cycles Inv-loop μ-loop
-add-cycles c =
-    omega (arith, spent-at (c .before .before .before) .1, c .before .before .before .before .before .before .before .before .before .before .before .loop-test .taken, c .before .before .before .before .before .before .before .before .before .before .before .before .loop .inv .2, c .before .before .before .before .before .before .before .before .before .before .before .before .before .before .before .before .good .1 .1 .1 .1)
+add-i c = omega (arith, spent-at (c .before) .1, c .before .before .before .before .before .before .before .before .before .before .loop-test .taken, c .before .before .before .before .before .before .before .before .before .before .before .before .before .before .before .good .1 .1 .1 .1)
 
 loop-less : tie.Need-loop-less Inv-loop μ-loop
-loop-less c = omega (arith, spent-at (c .before .before .before) .0)
+loop-less c = omega (arith, spent-at (c .before) .0)
 
 loop-again : tie.Need-loop-again Inv-loop μ-loop
 loop-again c =
-    let a = c .before .before .before .before .before .before .before .before .before .before .before .before .before .before .before .before .args in
-    let l = c .before .before .before .before .before .before .before .before .before .before .before .before .loop in
-    let d = c .before .before .before .before .before .before .before .do-step in (
+    let a = c .before .before .before .before .before .before .before .before .before .before .before .before .before .before .before .args in
+    let l = c .before .before .before .before .before .before .before .before .before .before .before .loop in
+    let d = c .before .before .before .before .before .before .do-step in (
       d .kept .1 .1 .0 ∙ l .inv .0,
-      omega (arith, spent-at (c .before .before .before) .1, c .before .before .before .before .before .before .before .before .before .before .before .loop-test .taken),
-      ap (λ n. n + d .result .cycles) (l .inv .2),
+      omega (arith, spent-at (c .before) .1, c .before .before .before .before .before .before .before .before .before .before .loop-test .taken),
+      still-stands (now (a .program)) (l .ram) (l .state) _ _ (d .result) (d .last .1 .1 .0) (d .ensures .0) (d .ensures .1) (c .before .if1 .left) (l .inv .2),
       went (now (a .program)) (now (a .samples)) (l .i)
-          (record { ram = l .ram; state = l .state; used = l .i; cycles = l .cycles; event = l .event }) (d .result) (d .last .1 .1 .0)
-          (d .ensures .0) (d .ensures .1) (c .before .before .before .before .before .before .before .before .before .before .before .loop-test .taken) (c .before .before .before .if1 .left) ∙ l .inv .3,
+          (record { ram = l .ram; state = l .state; used = l .i; cycles = l .i; event = l .event }) (d .result) (d .last .1 .1 .0)
+          (d .ensures .0) (d .ensures .1) (c .before .before .before .before .before .before .before .before .before .before .loop-test .taken) (c .before .if1 .left) ∙ l .inv .3,
     )
 
 run-out : tie.Need-returns-2 Inv-loop μ-loop
@@ -74,7 +76,7 @@ run-out c =
     let l = c .before .loop in
     let e =
     run-short (now (a .program)) (now (a .samples)) (l .i)
-    (record { ram = l .ram; state = l .state; used = l .i; cycles = l .cycles; event = l .event }) (c .loop-test .left)
+    (record { ram = l .ram; state = l .state; used = l .i; cycles = l .i; event = l .event }) (c .loop-test .left)
     in
     (ap (λ (r : Ended). r .ran) (sym e ∙ l .inv .3), ap (λ (r : Ended). r .ram) (sym e ∙ l .inv .3))
 
@@ -91,13 +93,11 @@ run-on-spec =
     (λ c. search needs)
     (λ c. search needs)
     (λ c. search needs)
-    (λ c κs. search needs)
+    do-step-requires
     (λ c. search needs)
     refused
     (λ c. search needs)
     add-i
-    (λ c. search needs)
-    add-cycles
     loop-less
     loop-again
     (λ c. search needs)

@@ -1,58 +1,34 @@
--- `mcs48_c::mcs48_read` meets its contract: the bytes that the writer gives are those that stand at the address.
+-- `mcs48_c::mcs48_read` meets its contract: at each `return` the tests that led there pick its case of `readOf`.
 -- Assumes nothing.
-use denote.Ref.{now}
 use borrow.Author.Needs.{needs}
-use Rattle.mcs48_c.proofs.Again.{one-again, two-again, not-unwritten}
+use borrow.Author.Tests.{lt-ltb, le-ltb, le-leb, lt-leb}
+use Rattle.isa.specs.Choice.{pick}
+use Rattle.isa.specs.Reading.{readOf, instructionAt}
 use Rattle.mcs48_c.proofs.mcs48_read.Statement.{statement}
 use Rattle.mcs48_c.proofs.mcs48_read.Tie as tie
 
-one : tie.Need-returns
-one c =
-    let wrote = c .before .before .before .before in
-    let found = wrote .before .before in
-    let start = found .before .before .before .before in
-    rw (c .pack .ensures)
-    (one-again (now (start .args .program)) (start .args .address) (wrote .write .result) (λ k. found .before .before .before .shared-slice-known .given k .fits)
-    (found .before .before .read .ensures) (found .i .given .1) (wrote .write .ensures) (search needs) (c .before .before .b .given .1))
+too-long : tie.Need-returns
+unfolding readOf instructionAt pick
+too-long c = simp (c .pack-refusal .ensures, lt-ltb _ _ (c .before .if1 .taken))
 
-two : tie.Need-returns-2
-two c =
-    let wrote = c .before .before .before .before in
-    let found = wrote .before .before in
-    let start = found .before .before .before .before in
-    rw (c .pack2 .ensures)
-    (two-again (now (start .args .program)) (start .args .address) (wrote .write .result) (λ k. found .before .before .before .shared-slice-known .given k .fits)
-    (found .before .before .read .ensures) (found .i .given .1) (wrote .write .ensures) (search needs) (search needs) (c .before .before .b2 .given .1))
+past-end : tie.Need-returns-2
+unfolding readOf instructionAt pick
+past-end c = simp (c .pack-refusal2 .ensures, le-ltb _ _ (c .before .before .if1 .left), le-leb _ _ (c .before .if2 .taken))
 
-never : tie.Need-returns-3
-never c =
-    let wrote = c .before .before .before .before in
-    let found = wrote .before .before in
-    let start = found .before .before .before .before in
-    not-unwritten (now (start .args .program)) (start .args .address) (wrote .write .result) (λ k. found .before .before .before .shared-slice-known .given k .fits)
-    (found .before .before .read .ensures) (found .i .given .1) (wrote .write .ensures) (c .before .before .r .given .1)
-
-unread : tie.Need-returns-4
-unread c =
-    let read = c .before .before .before .before .read in
-    rw (c .pack-refusal2 .ensures, ← (read .ensures), c .before .before .r2 .given .1)
+there : tie.Need-returns-3
+unfolding readOf instructionAt pick
+there c =
+    simp (le-ltb _ _ (c .before .before .before .if1 .left), lt-leb _ _ (c .before .before .if2 .left), c .read-at .ensures)
 
 pub mcs48-read-spec : {M : Type 1} → statement M
 mcs48-read-spec =
     tie.close
     (tie.spec
     (λ c κs. search needs)
+    too-long
+    (λ c κs. search needs)
+    past-end
+    (λ c. search needs)
     (λ c. search needs)
     (λ c κs. search needs)
-    (λ c. search needs)
-    (λ c κs. search needs)
-    (λ c. search needs)
-    (λ c κs. search needs)
-    (λ c. search needs)
-    (λ c κs. search needs)
-    (λ c. search needs)
-    (λ c κs. search needs)
-    one
-    two
-    never
-    unread)
+    there)

@@ -1,5 +1,8 @@
 -- `flow::stack::ret` meets its contract.
 -- Assumes nothing.
+use Prim.Native.Nat.{_%_}
+use mathlib.Core.Path.{_≡_}
+use native.Mathlib.Omega.{arith}
 use borrow.Author.Needs.{needs}
 use Rattle.flow.proofs.stack.ret.Statement.{statement}
 use Rattle.flow.proofs.stack.ret.Tie as tie
@@ -22,4 +25,6 @@ ret-spec =
     (λ c. search needs)
     (λ c. search needs)
     (λ c κs. search needs)
-    (λ c. simp (c .before .before .before .cell .ensures, c .before .before .cell2 .ensures, c .with-core .ensures)))
+    (λ c.
+    let byte : c .before .before .before .cell .result % 256 ≡ c .before .before .before .cell .result = omega arith in
+    simp (c .before .before .before .cell .ensures, c .before .before .cell2 .ensures, c .with-core .ensures, rw (c .before .before .before .cell .ensures) at byte)))
