@@ -6,7 +6,7 @@ use lib.ListN.{length, getD}
 use Rattle.isa.specs.declared.Cell.{Cell}
 use Rattle.isa.specs.declared.Cell.the-variants.{Register, Indirect}
 use Rattle.isa.specs.declared.Source.{Source}
-use Rattle.isa.specs.declared.Source.the-variants.{Memory, Immediate}
+use Rattle.isa.specs.declared.Source.the-variants.{FromRegister, FromIndirect, Immediate}
 use Rattle.effects.specs.Psw.{bitBs}
 
 abbrev pub cellAt : List ℕ → ℕ → ℕ
@@ -25,5 +25,6 @@ placeOf (Indirect r) ram psw = indirectAt ram psw r
 
 -- What Rr, @Rr and #data give.
 abbrev pub sourceOf : Source → List ℕ → ℕ → ℕ
-sourceOf (Memory c) ram psw = cellAt ram (placeOf c ram psw)
+sourceOf (FromRegister r) ram psw = cellAt ram (registerAt psw r)
+sourceOf (FromIndirect r) ram psw = cellAt ram (indirectAt ram psw r)
 sourceOf (Immediate d) ram psw = d

@@ -44,7 +44,8 @@ pub fn source(from: Source, ram: &[u8], psw: u8) -> u8
     ensures { λ v. ⌜ v ≡ sourceOf from (now (ram .entry)) psw ⌝ }
 {
     match from {
-        Source::Memory(c) => cell(ram, place(c, ram, psw)),
+        Source::FromRegister(r) => cell(ram, register(psw, r)),
+        Source::FromIndirect(r) => cell(ram, indirect(ram, psw, r)),
         Source::Immediate(d) => d,
     }
 }

@@ -24,9 +24,10 @@ pub enum Cell {
     Indirect(u8),
 }
 
-// What an instruction takes into A: Rr, @Rr or #data.
+// What an instruction takes into A: Rr, @Rr or #data. It is flat, without a Cell in it, for speed: docs/PERFORMANCE.md.
 pub enum Source {
-    Memory(Cell),
+    FromRegister(u8),
+    FromIndirect(u8),
     Immediate(u8),
 }
 

@@ -13,7 +13,7 @@ use Rattle.isa.specs.Sheet.{kindOf, entryOf, instructionOf}
 use Rattle.isa.specs.declared.Cell.{Cell}
 use Rattle.isa.specs.declared.Cell.the-variants.{Register, Indirect}
 use Rattle.isa.specs.declared.Source.{Source}
-use Rattle.isa.specs.declared.Source.the-variants.{Memory, Immediate}
+use Rattle.isa.specs.declared.Source.the-variants.{FromRegister, FromIndirect, Immediate}
 use Rattle.isa.specs.declared.Operation.{Operation}
 use Rattle.isa.specs.declared.Operation.the-variants.{Add, Addc, Anl, Orl, Xrl}
 use Rattle.isa.specs.declared.Unary.{Unary}
@@ -40,7 +40,8 @@ cellBack base (Register r) = base + 8 + r
 cellBack base (Indirect r) = base + r
 
 abbrev sourceBack : ℕ → ℕ → Source → List ℕ
-sourceBack base immediate (Memory c) = cellBack base c ∷ []
+sourceBack base immediate (FromRegister r) = (base + 8 + r) ∷ []
+sourceBack base immediate (FromIndirect r) = (base + r) ∷ []
 sourceBack base immediate (Immediate d) = immediate ∷ d ∷ []
 
 abbrev latchBack : ℕ → ℕ → Latch → ℕ

@@ -14,7 +14,7 @@ use Rattle.isa.specs.Reading.{Sized, sized, readOf, instructionAt, decodedAt}
 use Rattle.isa.specs.declared.Cell.{Cell}
 use Rattle.isa.specs.declared.Cell.the-variants.{Register, Indirect}
 use Rattle.isa.specs.declared.Source.{Source}
-use Rattle.isa.specs.declared.Source.the-variants.{Memory, Immediate}
+use Rattle.isa.specs.declared.Source.the-variants.{FromRegister, FromIndirect, Immediate}
 use Rattle.isa.specs.declared.Latch.{Latch}
 use Rattle.isa.specs.declared.Latch.the-variants.{Bus, Port}
 use Rattle.isa.specs.declared.Join.{Join}
@@ -135,12 +135,14 @@ mov-data-writes {c = Indirect r} = low-writes-two 0xB0 0 1 (λ k d. MovData (Ind
 -- Rr, @Rr and #data.
 pub source-writes :
     (base immediate : ℕ) (make : Source → Instruction) → ((s : Source) → holds (make s) ≡ sourceHolds s)
-    → listed (λ k. known (base + 8 + k) 0) 8 0 ≡ listed (λ k. sized (make (Memory (Register k))) 1) 8 0
-    → listed (λ k. known (base + k) 0) 2 0 ≡ listed (λ k. sized (make (Memory (Indirect k))) 1) 2 0
+    → listed (λ k. known (base + 8 + k) 0) 8 0 ≡ listed (λ k. sized (make (FromRegister k)) 1) 8 0
+    → listed (λ k. known (base + k) 0) 2 0 ≡ listed (λ k. sized (make (FromIndirect k)) 1) 2 0
     → ((d : ℕ) → known immediate d ≡ sized (make (Immediate d)) 2)
     → {i : Instruction} {w : Written} {s : Source} → i ≡ make s → w ≡ sourceCode base immediate s → Writes i (writtenAs w)
-source-writes base immediate make held er ei ed {s = Memory c} p q =
-    cell-writes base (λ c. make (Memory c)) (λ c. held (Memory c)) er ei p q
+source-writes base immediate make held er ei ed {s = FromRegister r} p q =
+    low-writes (base + 8) 0 7 (λ k. make (FromRegister k)) (λ k h. held (FromRegister k) ∙ h) er p q
+source-writes base immediate make held er ei ed {s = FromIndirect r} p q =
+    low-writes base 0 1 (λ k. make (FromIndirect k)) (λ k h. held (FromIndirect k) ∙ h) ei p q
 source-writes base immediate make held er ei ed {s = Immediate d} p q = rw (p, q) (reads-two immediate d (make (Immediate d)) (ed d))
 
 -- BUS and Pp.

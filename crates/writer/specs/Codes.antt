@@ -6,7 +6,7 @@ use Rattle.isa.specs.declared.Refusal.the-variants.{OperandTooLarge}
 use Rattle.isa.specs.declared.Cell.{Cell}
 use Rattle.isa.specs.declared.Cell.the-variants.{Register, Indirect}
 use Rattle.isa.specs.declared.Source.{Source}
-use Rattle.isa.specs.declared.Source.the-variants.{Memory, Immediate}
+use Rattle.isa.specs.declared.Source.the-variants.{FromRegister, FromIndirect, Immediate}
 use Rattle.isa.specs.declared.Latch.{Latch}
 use Rattle.isa.specs.declared.Latch.the-variants.{Bus, Port}
 use Rattle.writer.specs.declared.Written.{Written}
@@ -31,7 +31,8 @@ cellCode base (Register r) = codedLow (base + 8) 0 7 r
 cellCode base (Indirect r) = codedLow base 0 1 r
 
 abbrev pub sourceCode : ℕ → ℕ → Source → Written
-sourceCode base immediate (Memory c) = cellCode base c
+sourceCode base immediate (FromRegister r) = codedLow (base + 8) 0 7 r
+sourceCode base immediate (FromIndirect r) = codedLow base 0 1 r
 sourceCode base immediate (Immediate d) = Two immediate d
 
 abbrev pub latchCode : ℕ → ℕ → Latch → Written

@@ -11,7 +11,7 @@ use Rattle.isa.specs.Reading.{readOf, sized}
 use Rattle.isa.specs.declared.Cell.{Cell}
 use Rattle.isa.specs.declared.Cell.the-variants.{Register, Indirect}
 use Rattle.isa.specs.declared.Source.{Source}
-use Rattle.isa.specs.declared.Source.the-variants.{Memory, Immediate}
+use Rattle.isa.specs.declared.Source.the-variants.{FromRegister, FromIndirect, Immediate}
 use Rattle.isa.specs.declared.Condition.{Condition}
 use Rattle.isa.specs.declared.Condition.the-variants.{Jb, Jc, Jf0, Jf1, Jnc, Jni, Jnt0, Jnt1, Jnz, Jtf, Jt0, Jt1, Jz}
 use Rattle.isa.specs.declared.Latch.{Latch}
@@ -34,7 +34,8 @@ cellHolds (Register r) = within 0 7 r
 cellHolds (Indirect r) = within 0 1 r
 
 abbrev pub sourceHolds : Source → Bool
-sourceHolds (Memory c) = cellHolds c
+sourceHolds (FromRegister r) = within 0 7 r
+sourceHolds (FromIndirect r) = within 0 1 r
 sourceHolds (Immediate d) = byteHolds d
 
 abbrev pub latchHolds : Latch → Bool

@@ -78,7 +78,8 @@ fn source_code(base: u8, immediate: u8, s: Source) -> Written
     ensures { λ r. ⌜ r ≡ sourceCode base immediate s ⌝ }
 {
     match s {
-        Source::Memory(c) => cell_code(base, c),
+        Source::FromRegister(r) => coded_low(base + 8, 0, 7, r),
+        Source::FromIndirect(r) => coded_low(base, 0, 1, r),
         Source::Immediate(d) => Written::Two(immediate, d),
     }
 }

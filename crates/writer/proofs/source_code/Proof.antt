@@ -9,7 +9,11 @@ source-code-spec =
     tie.close
     (tie.spec
     (λ c. search needs)
+    (λ c. search needs)
     (λ c κs. search needs)
     (λ c. search needs)
-    (λ c. rw (c .before .before .s .given .1) (c .cell-code .ensures))
-    (λ c. rw (c .before .s2 .given .1)))
+    (λ c κs. search needs)
+    (λ c. search needs)
+    (λ c. rw (c .before .before .s .given .1) (c .coded-low .ensures))
+    (λ c. rw (c .before .before .s2 .given .1) (c .coded-low2 .ensures))
+    (λ c. rw (c .before .s3 .given .1)))
