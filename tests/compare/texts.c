@@ -1,5 +1,5 @@
 /*
- * Texts: mcs48_read against second_read and second_write, mcs48_list_line against
+ * Texts: mcs48_read and mcs48_reread against second_read and second_write, mcs48_list_line against
  * second_line, listings made line by line against second_listing, mcs48_power_up against
  * second_power_up.
  *
@@ -12,6 +12,9 @@
 #include <string.h>
 
 enum { PROGRAM_MOST = 4096, PROGRAM_ROOM = PROGRAM_MOST + 1, LINE_ROOM = 64 };
+
+/* The proved reader, and the proved writer on what it gives (crates/reread): as mcs48_read answers. */
+uint64_t mcs48_reread(const uint8_t *program, size_t program_len, size_t address);
 
 /* The call under way. Power-up takes the line's buffer for its state. */
 
@@ -64,6 +67,9 @@ static void check_read(void)
     proved_answer = mcs48_read(lent_program.at, program_len, address);
     if (proved_answer != second_answer)
         differ("what is read differs");
+    proved_answer = mcs48_reread(lent_program.at, program_len, address);
+    if (proved_answer != second_answer)
+        differ("what is read and written again differs");
 }
 
 /* Lines. */
