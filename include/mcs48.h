@@ -114,8 +114,8 @@ uint64_t mcs48_run(const uint8_t *program, size_t program_len, uint8_t *ram, siz
                    const uint32_t *samples, size_t samples_len, uint64_t *totals, size_t totals_len);
 
 /*
- * The instruction at an address: read, and written again by the instruction writer, which gives the very bytes that stand there. A second
- * byte is taken from the next PC: the low 11 bits of the address count and wrap, bit 11 stays, as in a step.
+ * The instruction at an address: its length and its bytes, which are those that the instruction writer gives for it. A second byte is taken
+ * from the next PC: the low 11 bits of the address count and wrap, bit 11 stays, as in a step.
  *
  * Returns
  *   bits  0-7   the number; order 1 (more than 4,096 bytes), 5 for the first byte, 4, 5 for the second

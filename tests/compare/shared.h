@@ -1,11 +1,11 @@
 /*
  * What the drivers share: random numbers, the count of cases, buffers that are lent with
- * guards around them, and the 24 bytes of a machine state.
+ * guards around them, printing.
  */
 #ifndef SHARED_H
 #define SHARED_H
 
-#include "second.h"
+#include "bytes.h"
 
 #include <stdbool.h>
 
@@ -68,43 +68,6 @@ void came_back(const struct lent *lent, const char *name, const void *expected);
 
 /* Reserves len bytes that can be read, as zeros, and not written. */
 const uint8_t *zeros(size_t len);
-
-/*
- * The machine state as bytes. The second emulator knows neither the bytes 20 to 23 nor a
- * length: where these are wrong, a state that is outside its sizes stands for them.
- */
-
-/* Where each field stands, and how many bytes there are. */
-enum state_byte {
-    BYTE_A,
-    BYTE_PC_LOW,
-    BYTE_PC_HIGH,
-    BYTE_PSW,
-    BYTE_F1,
-    BYTE_DBF,
-    BYTE_T,
-    BYTE_DIVIDER,
-    BYTE_COUNTING,
-    BYTE_TF,
-    BYTE_REQUEST,
-    BYTE_EXTERNAL_ENABLED,
-    BYTE_TIMER_ENABLED,
-    BYTE_IN_SERVICE,
-    BYTE_LAST_T1,
-    BYTE_T0_CLOCK,
-    BYTE_P1,
-    BYTE_P2,
-    BYTE_BUS,
-    BYTE_BUS_DRIVEN,
-    BYTE_RESERVED, /* and the three after it */
-    STATE_BYTES = BYTE_RESERVED + 4
-};
-
-extern const char *const state_byte_names[STATE_BYTES];
-
-void bytes_of_state(uint8_t bytes[STATE_BYTES], const struct second_state *state);
-struct second_state state_of_bytes(const uint8_t *bytes, size_t len);
-bool known_to_second(const uint8_t *bytes, size_t len);
 
 /* Printing. */
 
