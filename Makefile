@@ -1,11 +1,13 @@
 SHELL = bash
 PREFIX ?= /usr/local
+ARCHIVE = target/staticlib/libmcs48_c.a
 # make: prove what has changed and build it · make demo: the night of twenty past two · make test: the gate, from nothing
 # make bench · make list ROM=file: list a ROM · make install PREFIX=/usr/local · make fmt
 .PHONY: all archive demo test bench list install fmt
 all: archive
 	rt check
-archive:
+archive: $(ARCHIVE)
+$(ARCHIVE): crates.txt $(shell find crates -name '*.rt' -o -name '*.antt')
 	@mkdir -p target
 	@rt staticlib mcs48_c >target/archive.log 2>&1 || { cat target/archive.log; exit 1; }
 demo: archive
@@ -20,7 +22,7 @@ list:
 	@. tests/kit.sh && program list <"$(firstword $(wildcard $(ROM) $(ROM).bin) $(ROM))"
 install: archive
 	install -Dm644 include/mcs48.h $(DESTDIR)$(PREFIX)/include/mcs48.h
-	install -Dm644 target/staticlib/libmcs48_c.a $(DESTDIR)$(PREFIX)/lib/libmcs48_c.a
+	install -Dm644 $(ARCHIVE) $(DESTDIR)$(PREFIX)/lib/libmcs48_c.a
 	install -d $(DESTDIR)$(PREFIX)/lib/pkgconfig
 	sed 's|@PREFIX@|$(PREFIX)|' include/mcs48.pc.in >$(DESTDIR)$(PREFIX)/lib/pkgconfig/mcs48.pc
 fmt:

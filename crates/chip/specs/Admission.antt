@@ -26,7 +26,7 @@ standing program ram s =
     (pick (not (ramAllowed ram)) 2
     (pick (not (permitted s)) 3 0))
 
--- The number that the two samples give, which the step is given.
+-- The number that the two samples of a step give, 0 if none.
 abbrev pub sampleNumber : ℕ → ℕ → ℕ
 sampleNumber first second = pick (not (sampleAllowed first && sampleAllowed second)) 6 0
 

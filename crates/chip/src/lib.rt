@@ -102,7 +102,8 @@ fn settle(s: State, cycles: u8, fresh: bool, first: u32, second: u32) -> State
     s.with_count(tick(counting, s.count(), cycles, fresh, i.timer, first, second))
 }
 
-// The whole step, without its write to RAM.
+// The whole step, without its write to RAM. 1, 2 and 3 are not given: `step` asks before, and `run` once, since an accepted step leaves it
+// so (the law `still-stands`).
 fn plan_step(
     table: &[u16; 256],
     program: &[u8],
