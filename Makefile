@@ -9,6 +9,7 @@ all: archive
 archive: $(ARCHIVE)
 $(ARCHIVE): crates.txt $(shell find crates -name '*.rt' -o -name '*.antt')
 	@mkdir -p target
+	@echo 'proving the library; the first time that takes some minutes' >&2
 	@rt staticlib mcs48_c >target/archive.log 2>&1 || { cat target/archive.log; exit 1; }
 demo: archive
 	@demo/run
