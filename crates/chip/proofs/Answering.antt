@@ -1,44 +1,36 @@
 -- The step after an overflow is the call to location 7.
 -- Assumes nothing.
-use Prim.Native.Nat.{ℕ, _+_, _-_, _*_, _%_, _≤_, _<_}
+use Prim.Native.Nat.{ℕ, _+_, _*_, _/_, _%_, _≤_, _<_}
 use mathlib.Core.Bool.{Bool, true, false, not, _||_, _&&_, false≢true}
 use mathlib.Core.List.{List}
 use mathlib.Core.Logic.{_⊎_, ⊎-elim}
 use mathlib.Core.Path.{_≡_, refl, sym, ap, _∙_, subst}
 use native.Mathlib.Omega.{arith}
 use lib.Dec.{eqb}
-use borrow.Author.Tests.{eqb-true, eqb-false, eq-eqb, ne-eqb, not-true, lt-leb}
-use Rattle.isa.specs.Choice.{pick}
+use lib.ListN.{set}
+use borrow.Author.Tests.{eqb-true, eqb-false, not-true}
+use Rattle.machine.specs.Pins.{intPin, resetPin, isLow}
 use Rattle.machine.specs.State.{countOf}
 use Rattle.machine.specs.declared.Count.{Count}
 use Rattle.machine.specs.declared.State.{State}
-use Rattle.machine.proofs.Timing.{request-stays}
-use Rattle.effects.specs.Pins.{low}
+use Rattle.machine.proofs.Timing.{request-stays, tf-stays}
+use Rattle.effects.specs.Psw.{sp}
+use Rattle.effects.specs.declared.Write.{Write}
+use Rattle.effects.specs.declared.Write.the-variants.{Pair}
 use Rattle.flow.specs.Stack.{pushed}
-use Rattle.chip.specs.History.{Cycle, afterwards, firstCycle, secondCycle, courseAt, planAt, after, Steps, more, cycle, Undisturbed, AllUndisturbed, CallTo7}
-use Rattle.chip.specs.Run.{Standing}
-use Rattle.chip.specs.Step.{declined, accepted, called, withoutRequest, externalCalls, timerCalls, course, settled, planBy}
+use Rattle.chip.specs.History.{Cycle, afterwards, Overflowing, firstCycle, secondCycle, courseAt, planAt, after, Steps, more, cycle, Undisturbed, AllUndisturbed, CallTo7, overflowCycle}
+use Rattle.chip.specs.Run.{Progress}
+use Rattle.chip.specs.Step.{declined, accepted, called, withoutRequest, externalCalls, timerCalls, course, settled, written}
 use Rattle.chip.specs.declared.Course.{Course}
 use Rattle.chip.proofs.Choices.{either}
-use Rattle.chip.proofs.Cycles.{Counts, Running, count-law, one-or-two, accepted-course, is-settled, same-cycles, ends-first, ends-second, ends-enabled, first-counts, second-counts}
+use Rattle.chip.proofs.Cycles.{Counts, Running, plan-write, cycle-first, cycle-second, count-law, one-or-two, accepted-course, is-settled, same-cycles, ends-first, ends-second, ends-enabled, first-counts, second-counts}
 use Rattle.chip.proofs.Overflows.{overflowing, calm, first-hit}
 
--- ---- the cycles of the last step of a history
-module _ {program ram : List ℕ} {s : State} {k : Standing} (first second : ℕ) (h : Steps program ram s k)
-    (a : planAt program k first second .number ≡ 0) (i : ℕ) (b : k .cycles < i) where
-  pub cycle-first : i ≡ k .cycles + 1 → cycle (more first second h a) i ≡ firstCycle (courseAt program k first second) first
-  unfolding cycle pick
-  cycle-first e = rw (lt-leb i (k .cycles) b, eq-eqb i (k .cycles + 1) e)
-
-  cycle-second : (i ≡ k .cycles + 1 → ⊥) → cycle (more first second h a) i ≡ secondCycle (courseAt program k first second) first second
-  unfolding cycle pick
-  cycle-second e = rw (lt-leb i (k .cycles) b, ne-eqb i (k .cycles + 1) e)
-
-pub first-enabled : (c : Course) (first : ℕ) → firstCycle c first .enabled ≡ c .state .interrupts .timer
+first-enabled : (c : Course) (first : ℕ) → firstCycle c first .enabled ≡ c .state .interrupts .tcnti
 unfolding firstCycle
 first-enabled c first = refl
 
-second-enabled : (c : Course) (first second : ℕ) → secondCycle c first second .enabled ≡ c .state .interrupts .timer
+second-enabled : (c : Course) (first second : ℕ) → secondCycle c first second .enabled ≡ c .state .interrupts .tcnti
 unfolding secondCycle
 second-enabled c first second = refl
 
@@ -46,78 +38,103 @@ second-before : (c : Course) (first second : ℕ) → secondCycle c first second
 unfolding secondCycle
 second-before c first second = refl
 
-stays : (x : Cycle) → x .before .request ≡ true → afterwards x .request ≡ true
-stays x h = request-stays (x .counting) (x .before) (x .t1) (x .enabled) h
+-- The timer interrupt is enabled in a step's cycles exactly if it is after the step.
+pub step-enabled :
+    {program ram : List ℕ} {s : State} {k : Progress} (first second : ℕ) (h : Steps program ram s k) (a : planAt program k first second .number ≡ 0)
+    (i : ℕ) → k .cycles < i → cycle (more first second h a) i .enabled ≡ after program k first second .state .interrupts .tcnti
+step-enabled {program} {k = k} first second h a i b = go (eqb i (k .cycles + 1)) refl
+  where
+    go : (x : Bool) → eqb i (k .cycles + 1) ≡ x → cycle (more first second h a) i .enabled ≡ after program k first second .state .interrupts .tcnti
+    go true e =
+        ap (λ (z : Cycle). z .enabled) (cycle-first first second h a i b (eqb-true _ _ e)) ∙ first-enabled (courseAt program k first second) first
+        ∙ sym (ends-enabled program k first second a)
+    go false e =
+        ap (λ (z : Cycle). z .enabled) (cycle-second first second h a i b (eqb-false _ _ e))
+        ∙ second-enabled (courseAt program k first second) first second ∙ sym (ends-enabled program k first second a)
+
+-- What a cycle leaves alone of a stored request and of TF.
+keeps-request : (x : Cycle) → x .before .request ≡ true → afterwards x .request ≡ true
+keeps-request x h =
+    either (λ (y : Count). y .request ≡ true) _ _ _ (λ f. h) (λ f. request-stays (x .counting) (x .before) (x .t1) (x .enabled) h)
+
+keeps-tf : (x : Cycle) → x .before .tf ≡ true → afterwards x .tf ≡ true
+keeps-tf x h = either (λ (y : Count). y .tf ≡ true) _ _ _ (λ f. h) (λ f. tf-stays (x .counting) (x .before) (x .t1) (x .enabled) h)
 
 or-right : (x y : Bool) → y ≡ true → (x || y) ≡ true
 or-right true y h = refl
 or-right false y h = h
 
--- ---- the step with the overflow, the timer interrupt being enabled in it, leaves a request and the interrupt enabled
-module _ {program ram : List ℕ} {s : State} {k : Standing} (c : ℕ) (small : c < 256) (first second : ℕ) (h : Steps program ram s k)
+-- ---- the step with the overflow
+module _ {program ram : List ℕ} {s : State} {k : Progress} (c : ℕ) (small : c < 256) (first second : ℕ) (h : Steps program ram s k)
     (a : planAt program k first second .number ≡ 0) (u : AllUndisturbed (more first second h a)) (r : Running c 0 s)
-    (b : k .cycles < 32 * (256 - c)) (g : 32 * (256 - c) ≤ k .cycles + planAt program k first second .cycles)
-    (on : cycle (more first second h a) (32 * (256 - c)) .enabled ≡ true) where
-  course-on : courseAt program k first second .state .interrupts .timer ≡ true
-  course-on = go (eqb (32 * (256 - c)) (k .cycles + 1)) refl
-    where
-      go : (x : Bool) → eqb (32 * (256 - c)) (k .cycles + 1) ≡ x → courseAt program k first second .state .interrupts .timer ≡ true
-      go true e =
-          sym (first-enabled (courseAt program k first second) first)
-          ∙ ap (λ (z : Cycle). z .enabled) (sym (cycle-first first second h a _ b (eqb-true _ _ e))) ∙ on
-      go false e =
-          sym (second-enabled (courseAt program k first second) first second)
-          ∙ ap (λ (z : Cycle). z .enabled) (sym (cycle-second first second h a _ b (eqb-false _ _ e))) ∙ on
-
-  left-enabled : after program k first second .state .interrupts .timer ≡ true
-  left-enabled = ends-enabled program k first second a ∙ course-on
-
+    (b : k .cycles < overflowCycle c) (g : overflowCycle c ≤ k .cycles + planAt program k first second .cycles) where
   before-step : Running c (k .cycles) (k .state)
   before-step = count-law c h (u .0) r
 
-  positive : 1 ≤ 32 * (256 - c)
+  positive : 1 ≤ overflowCycle c
   positive = omega arith
 
-  in-first : 32 * (256 - c) ≡ k .cycles + 1 → afterwards (firstCycle (courseAt program k first second) first) .request ≡ true
+  in-first : overflowCycle c ≡ k .cycles + 1 → Overflowing (firstCycle (courseAt program k first second) first)
   in-first e =
-      overflowing c (32 * (256 - c)) _ positive
+      overflowing c (overflowCycle c) _ positive
       (subst (λ (j : ℕ). Counts c j (firstCycle (courseAt program k first second) first)) (sym e) (first-counts program k first second a (u .1) c (k .cycles) before-step))
-      (first-hit c small) .request
-      ∙ or-right (firstCycle (courseAt program k first second) first .before .request) _ (first-enabled (courseAt program k first second) first ∙ course-on)
+      (first-hit c small)
 
-  in-second : 32 * (256 - c) ≡ k .cycles + 1 + 1 → afterwards (secondCycle (courseAt program k first second) first second) .request ≡ true
+  in-second : overflowCycle c ≡ k .cycles + 1 + 1 → Overflowing (secondCycle (courseAt program k first second) first second)
   in-second e =
-      overflowing c (32 * (256 - c)) _ positive
+      overflowing c (overflowCycle c) _ positive
       (subst (λ (j : ℕ). Counts c j (secondCycle (courseAt program k first second) first second)) (sym e) (second-counts program k first second a (u .1) c (k .cycles) before-step))
-      (first-hit c small) .request
-      ∙ or-right (secondCycle (courseAt program k first second) first second .before .request) _ (second-enabled (courseAt program k first second) first second ∙ course-on)
+      (first-hit c small)
 
-  left-request : after program k first second .state .request ≡ true
-  left-request = go (eqb (32 * (256 - c)) (k .cycles + 1)) (eqb (planAt program k first second .cycles) 2) refl refl
+  -- What holds of the counter after the overflow, and stays through a cycle, holds after the step: the overflow may be in either cycle.
+  left :
+      (P : Count → Type 0) → ((x : Cycle) → P (x .before) → P (afterwards x))
+      → (overflowCycle c ≡ k .cycles + 1 → P (afterwards (firstCycle (courseAt program k first second) first)))
+      → (overflowCycle c ≡ k .cycles + 1 + 1 → P (afterwards (secondCycle (courseAt program k first second) first second)))
+      → P (countOf (after program k first second .state))
+  left P stays one two = go (eqb (overflowCycle c) (k .cycles + 1)) (eqb (planAt program k first second .cycles) 2) refl refl
     where
       go :
-          (x y : Bool) → eqb (32 * (256 - c)) (k .cycles + 1) ≡ x → eqb (planAt program k first second .cycles) 2 ≡ y
-          → after program k first second .state .request ≡ true
+          (x y : Bool) → eqb (overflowCycle c) (k .cycles + 1) ≡ x → eqb (planAt program k first second .cycles) 2 ≡ y
+          → P (countOf (after program k first second .state))
       go true true e f =
-          ap (λ (t : Count). t .request) (ends-second program k first second a (u .1) (eqb-true _ _ f))
-          ∙ stays (secondCycle (courseAt program k first second) first second)
-          (ap (λ (t : Count). t .request) (second-before (courseAt program k first second) first second) ∙ in-first (eqb-true _ _ e))
+          subst P (sym (ends-second program k first second a (eqb-true _ _ f)))
+          (stays (secondCycle (courseAt program k first second) first second)
+          (subst P (sym (second-before (courseAt program k first second) first second)) (one (eqb-true _ _ e))))
       go true false e f =
           let d : planAt program k first second .cycles ≡ 2 → ⊥ = eqb-false _ _ f in
           let o = one-or-two program k first second a in
           let w : planAt program k first second .cycles ≡ 1 = omega (arith, o .0, o .1, d) in
-          ap (λ (t : Count). t .request) (ends-first program k first second a (u .1) w) ∙ in-first (eqb-true _ _ e)
+          subst P (sym (ends-first program k first second a w)) (one (eqb-true _ _ e))
       go false true e f =
-          let d : 32 * (256 - c) ≡ k .cycles + 1 → ⊥ = eqb-false _ _ e in
+          let d : overflowCycle c ≡ k .cycles + 1 → ⊥ = eqb-false _ _ e in
           let w : planAt program k first second .cycles ≡ 2 = eqb-true _ _ f in
-          let v : 32 * (256 - c) ≡ k .cycles + 1 + 1 = omega arith in
-          ap (λ (t : Count). t .request) (ends-second program k first second a (u .1) w) ∙ in-second v
+          let v : overflowCycle c ≡ k .cycles + 1 + 1 = omega arith in
+          subst P (sym (ends-second program k first second a w)) (two v)
       go false false e f =
-          let d : 32 * (256 - c) ≡ k .cycles + 1 → ⊥ = eqb-false _ _ e in
+          let d : overflowCycle c ≡ k .cycles + 1 → ⊥ = eqb-false _ _ e in
           let d' : planAt program k first second .cycles ≡ 2 → ⊥ = eqb-false _ _ f in
           let o = one-or-two program k first second a in
           let w : planAt program k first second .cycles ≡ 1 = omega (arith, o .0, o .1, d') in
           absurd (omega arith)
+
+  -- It leaves TF set,
+  pub left-tf : after program k first second .state .tf ≡ true
+  left-tf = left (λ (y : Count). y .tf ≡ true) keeps-tf (λ e. in-first e .tf) (λ e. in-second e .tf)
+
+  -- and, if the timer interrupt is enabled in the overflow's cycle, a request, and the interrupt enabled.
+  module _ (on : cycle (more first second h a) (overflowCycle c) .enabled ≡ true) where
+    course-on : courseAt program k first second .state .interrupts .tcnti ≡ true
+    course-on = sym (ends-enabled program k first second a) ∙ sym (step-enabled first second h a (overflowCycle c) b) ∙ on
+
+    left-enabled : after program k first second .state .interrupts .tcnti ≡ true
+    left-enabled = ends-enabled program k first second a ∙ course-on
+
+    pub left-request : after program k first second .state .request ≡ true
+    left-request =
+        left (λ (y : Count). y .request ≡ true) keeps-request
+        (λ e. in-first e .request ∙ or-right (firstCycle (courseAt program k first second) first .before .request) _ (first-enabled (courseAt program k first second) first ∙ course-on))
+        (λ e. in-second e .request ∙ or-right (secondCycle (courseAt program k first second) first second .before .request) _ (second-enabled (courseAt program k first second) first second ∙ course-on))
 
 -- ---- the step that finds a request
 record Calls (z c : Course) : Type 0 where
@@ -128,7 +145,7 @@ unfolding declined
 declined-calls z n s h = record { calls = λ e. absurd (h e) }
 
 course-calls :
-    (program ram : List ℕ) (s : State) (first second : ℕ) → low 27 first ≡ false → externalCalls s first ≡ false → timerCalls s ≡ true
+    (program ram : List ℕ) (s : State) (first second : ℕ) → isLow resetPin first ≡ false → externalCalls s first ≡ false → timerCalls s ≡ true
     → Calls (accepted (called (withoutRequest s) 7) 2) (course program ram s first second)
 unfolding course
 course-calls program ram s first second r e t =
@@ -150,6 +167,13 @@ call-service : (s : State) → accepted (called (withoutRequest s) 7) 2 .state .
 unfolding accepted called withoutRequest pushed
 call-service s = refl
 
+call-write :
+    (s : State)
+    → accepted (called (withoutRequest s) 7) 2 .write
+    ≡ Pair (8 + sp (s .psw) * 2) (s .pc % 256) (s .pc / 256 % 16 + s .psw / 16 * 16)
+unfolding accepted called withoutRequest pushed
+call-write s = refl
+
 call-cycles : (s : State) → accepted (called (withoutRequest s) 7) 2 .cycles ≡ 2
 unfolding accepted
 call-cycles s = refl
@@ -167,8 +191,8 @@ unfolding firstCycle
 first-request c first = refl
 
 -- "The external one is disabled or its pin high."
-external-off : (s : State) (first : ℕ) → (s .interrupts .external ≡ false) ⊎ (low 24 first ≡ false) → externalCalls s first ≡ false
-external-off s first h = go (s .interrupts .service) (s .interrupts .external) (low 24 first) h
+external-off : (s : State) (first : ℕ) → (s .interrupts .external ≡ false) ⊎ (isLow intPin first ≡ false) → externalCalls s first ≡ false
+external-off s first h = go (s .interrupts .service) (s .interrupts .external) (isLow intPin first) h
   where
     go : (x y z : Bool) → (y ≡ false) ⊎ (z ≡ false) → (not x && y && z) ≡ false
     go true y z h = refl
@@ -176,16 +200,20 @@ external-off s first h = go (s .interrupts .service) (s .interrupts .external) (
     go false true false h = refl
     go false true true h = ⊎-elim (λ e. e) (λ e. e) h
 
-timer-on : (s : State) → s .interrupts .service ≡ false → s .interrupts .timer ≡ true → s .request ≡ true → timerCalls s ≡ true
+timer-on : (s : State) → s .interrupts .service ≡ false → s .interrupts .tcnti ≡ true → s .request ≡ true → timerCalls s ≡ true
 timer-on s x y z = rw (x, y, z)
 
-calm-after : (c i : ℕ) → c < 256 → 32 * (256 - c) < i → i ≤ 32 * (256 - c) + 3 → (32 * c + i) % 8192 ≡ 0 → ⊥
+calm-after : (c i : ℕ) → c < 256 → overflowCycle c < i → i ≤ overflowCycle c + 3 → (32 * c + i) % 8192 ≡ 0 → ⊥
 calm-after c i h l g e = omega arith
 
+pair-written : (ram : List ℕ) (w : Write) (at low high : ℕ) → w ≡ Pair at low high → written ram w ≡ set (set ram at low) (at + 1) high
+unfolding written
+pair-written ram w at low high e = rw e
+
 -- A step that finds a request, with nothing in service and no external interrupt, is the call, and no overflow falls into it.
-module _ (program : List ℕ) (k : Standing) (first second : ℕ) (a : planAt program k first second .number ≡ 0)
+module _ (program : List ℕ) (k : Progress) (first second : ℕ) (a : planAt program k first second .number ≡ 0)
     (q : Undisturbed program (k .state) first) (e : externalCalls (k .state) first ≡ false) (t : timerCalls (k .state) ≡ true)
-    (c n : ℕ) (small : c < 256) (h : Running c n (k .state)) (l : 32 * (256 - c) ≤ n) (g : n + 1 + 1 ≤ 32 * (256 - c) + 3) where
+    (c n : ℕ) (small : c < 256) (h : Running c n (k .state)) (l : overflowCycle c ≤ n) (g : n + 1 + 1 ≤ overflowCycle c + 3) where
   the-call : courseAt program k first second ≡ accepted (called (withoutRequest (k .state)) 7) 2
   the-call = course-calls program (k .ram) (k .state) first second (q .no-reset) e t .calls (accepted-course program k first second a)
 
@@ -219,27 +247,31 @@ module _ (program : List ℕ) (k : Standing) (first second : ℕ) (a : planAt pr
             ∙ settled-pc (courseAt program k first second .state) _ _ first second
             ∙ ap (λ (x : Course). x .state .pc) the-call ∙ call-pc (k .state);
         request =
-            ap (λ (x : Count). x .request) (ends-second program k first second a q two-cycles) ∙ second-leaves
+            ap (λ (x : Count). x .request) (ends-second program k first second a two-cycles) ∙ second-leaves
             ∙ ap (λ (x : Count). x .request) (second-before (courseAt program k first second) first second) ∙ first-leaves ∙ first-none;
         service =
             ap (λ (s : State). s .interrupts .service) (is-settled program k first second a)
             ∙ settled-service (courseAt program k first second .state) _ _ first second
             ∙ ap (λ (x : Course). x .state .interrupts .service) the-call ∙ call-service (k .state);
         cycles = two-cycles;
+        memory =
+            pair-written (k .ram) _ _ _ _
+            (plan-write (courseAt program k first second) (k .state) first second (accepted-course program k first second a)
+            ∙ ap (λ (x : Course). x .write) the-call ∙ call-write (k .state));
       }
 
 -- The third demand's last sentence. h is the history before the step with the first overflow, a that step, a' the next one. If the timer
 -- interrupt is enabled in the overflow's cycle, all conditions hold through the next step, and at that step's start no interrupt is in
 -- service and the external one is disabled or INT is high, then that step is the call to 7, and it ends at most 3 cycles after the
 -- overflow.
-module _ {program ram : List ℕ} {s : State} {k : Standing} (c : ℕ) (small : c < 256) (r : Running c 0 s) (h : Steps program ram s k)
+module _ {program ram : List ℕ} {s : State} {k : Progress} (c : ℕ) (small : c < 256) (r : Running c 0 s) (h : Steps program ram s k)
     (first second : ℕ) (a : planAt program k first second .number ≡ 0)
-    (b : k .cycles < 32 * (256 - c)) (g : 32 * (256 - c) ≤ k .cycles + planAt program k first second .cycles)
-    (on : cycle (more first second h a) (32 * (256 - c)) .enabled ≡ true)
+    (b : k .cycles < overflowCycle c) (g : overflowCycle c ≤ k .cycles + planAt program k first second .cycles)
+    (on : cycle (more first second h a) (overflowCycle c) .enabled ≡ true)
     (first' second' : ℕ) (a' : planAt program (after program k first second) first' second' .number ≡ 0)
     (u : AllUndisturbed (more first' second' (more first second h a) a'))
     (idle : after program k first second .state .interrupts .service ≡ false)
-    (off : (after program k first second .state .interrupts .external ≡ false) ⊎ (low 24 first' ≡ false)) where
+    (off : (after program k first second .state .interrupts .external ≡ false) ⊎ (isLow intPin first' ≡ false)) where
   pub call-law : CallTo7 program (after program k first second) first' second'
   call-law =
       let o = one-or-two program k first second a in
@@ -247,7 +279,7 @@ module _ {program ram : List ℕ} {s : State} {k : Standing} (c : ℕ) (small : 
       (timer-on (after program k first second .state) idle (left-enabled c small first second h a (u .0) r b g on) (left-request c small first second h a (u .0) r b g on))
       c (k .cycles + planAt program k first second .cycles) small (count-law c (more first second h a) (u .0) r) g (omega (arith, o .1))
 
-  pub within-3 : k .cycles + planAt program k first second .cycles + planAt program (after program k first second) first' second' .cycles ≤ 32 * (256 - c) + 3
+  pub within-3 : k .cycles + planAt program k first second .cycles + planAt program (after program k first second) first' second' .cycles ≤ overflowCycle c + 3
   within-3 =
       let o = one-or-two program k first second a in
       let w = call-law .cycles in

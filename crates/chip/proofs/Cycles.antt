@@ -6,7 +6,7 @@ use mathlib.Core.List.{List}
 use mathlib.Core.Path.{_≡_, refl, sym, ap, _∙_, subst}
 use native.Mathlib.Omega.{arith}
 use lib.Dec.{eqb, leb}
-use borrow.Author.Tests.{eqb-true, eqb-false, eq-eqb, not-true, leb-true, leb-false}
+use borrow.Author.Tests.{eqb-true, eqb-false, eq-eqb, ne-eqb, not-true, leb-true, leb-false, lt-leb}
 use Rattle.isa.specs.Choice.{pick}
 use Rattle.isa.specs.Numbers.{Answer, given, refused}
 use Rattle.isa.specs.Reading.{Sized, sized, instructionAt}
@@ -24,11 +24,12 @@ use Rattle.flow.specs.Stack.{pushed}
 use Rattle.execute.specs.Setting.{LeavesCounter, Setting, settingOf}
 use Rattle.execute.proofs.Keeping.{Keeps, keeps}
 use Rattle.chip.specs.History.{Cycle, afterwards, firstCycle, secondCycle, courseAt, planAt, after, Steps, none, more, cycle, Undisturbed, AllUndisturbed, JustStarted}
-use Rattle.chip.specs.Run.{Standing}
+use Rattle.chip.specs.Run.{Progress}
 use Rattle.chip.specs.Step.{declined, accepted, called, withoutRequest, pcAfter, done, carriedBy, carried, course, ticked, settled, planBy}
 use Rattle.chip.specs.declared.Course.{Course}
 use Rattle.chip.specs.declared.Plan.{Plan}
 use Rattle.chip.proofs.Choices.{either}
+use Rattle.chip.proofs.Fresh.{course-once}
 use Rattle.chip.proofs.Lasting.{plan-busy}
 
 -- ---- what an undisturbed step does before its cycles are counted leaves the counter alone
@@ -99,12 +100,16 @@ module _ (c : Course) (s : State) (first second : ℕ) where
   unfolding planBy pick
   plan-cycles h = rw (eq-eqb _ _ h)
 
--- The counter after one counted cycle and after two, and what counting leaves.
+  pub plan-write : c .number ≡ 0 → planBy c s first second .write ≡ c .write
+  unfolding planBy pick
+  plan-write h = rw (eq-eqb _ _ h)
+
+-- The counter after one cycle and after two, and what counting leaves.
 settled-one :
-    (c : Course) (first second : ℕ) → c .fresh ≡ false → c .cycles ≡ 1
+    (c : Course) (first second : ℕ) → c .cycles ≡ 1
     → countOf (settled (c .state) (c .cycles) (c .fresh) first second) ≡ afterwards (firstCycle c first)
 unfolding settled ticked firstCycle pick
-settled-one c first second f e = rw (f, e)
+settled-one c first second e = rw e
 
 settled-two :
     (c : Course) (first second : ℕ) → c .fresh ≡ false → c .cycles ≡ 2
@@ -116,7 +121,7 @@ settled-counting : (s : State) (cycles : ℕ) (fresh : Bool) (first second : ℕ
 unfolding settled
 settled-counting s cycles fresh first second = refl
 
-settled-timer : (s : State) (cycles : ℕ) (fresh : Bool) (first second : ℕ) → settled s cycles fresh first second .interrupts .timer ≡ s .interrupts .timer
+settled-timer : (s : State) (cycles : ℕ) (fresh : Bool) (first second : ℕ) → settled s cycles fresh first second .interrupts .tcnti ≡ s .interrupts .tcnti
 unfolding settled
 settled-timer s cycles fresh first second = refl
 
@@ -128,22 +133,26 @@ pub record Running (c n : ℕ) (s : State) : Type 0 where
 -- A cycle in which it does: cycle i takes it from i - 1 cycles to i.
 pub record Counts (c i : ℕ) (x : Cycle) : Type 0 where
   pub counting : x .counting ≡ Timer
+  pub counted-in : x .fresh ≡ false
   pub from : At c (pred i) (x .before)
   pub to : At c i (afterwards x)
 
 -- A cycle that the counter enters as timer.
-counts-one : (c n : ℕ) (x : Cycle) → x .counting ≡ Timer → At c n (x .before) → Counts c (n + 1) x
-counts-one c n x e h =
+counts-one : (c n : ℕ) (x : Cycle) → x .counting ≡ Timer → x .fresh ≡ false → At c n (x .before) → Counts c (n + 1) x
+unfolding pick
+counts-one c n x e f h =
     let p : pred (n + 1) ≡ n = omega arith in
     record {
       counting = e;
+      counted-in = f;
       from = subst (λ (j : ℕ). At c j (x .before)) (sym p) h;
       to =
-          subst (λ (m : Counting). At c (n + 1) (counted m (x .before) (x .t1) (x .enabled))) (sym e)
-          (one-more c n (x .before) (x .t1) (x .enabled) h);
+          rw f
+          (subst (λ (m : Counting). At c (n + 1) (counted m (x .before) (x .t1) (x .enabled))) (sym e)
+          (one-more c n (x .before) (x .t1) (x .enabled) h));
     }
 
-module _ (program : List ℕ) (k : Standing) (first second : ℕ) (a : planAt program k first second .number ≡ 0) where
+module _ (program : List ℕ) (k : Progress) (first second : ℕ) (a : planAt program k first second .number ≡ 0) where
   -- An accepted step takes one cycle or two.
   pub one-or-two : (1 ≤ planAt program k first second .cycles) × (planAt program k first second .cycles ≤ 2)
   one-or-two =
@@ -160,26 +169,26 @@ module _ (program : List ℕ) (k : Standing) (first second : ℕ) (a : planAt pr
   pub same-cycles : courseAt program k first second .cycles ≡ planAt program k first second .cycles
   same-cycles = sym (plan-cycles (courseAt program k first second) (k .state) first second accepted-course)
 
-  pub ends-enabled : after program k first second .state .interrupts .timer ≡ courseAt program k first second .state .interrupts .timer
-  ends-enabled = ap (λ (s : State). s .interrupts .timer) is-settled ∙ settled-timer (courseAt program k first second .state) _ _ first second
+  pub ends-enabled : after program k first second .state .interrupts .tcnti ≡ courseAt program k first second .state .interrupts .tcnti
+  ends-enabled = ap (λ (s : State). s .interrupts .tcnti) is-settled ∙ settled-timer (courseAt program k first second .state) _ _ first second
+
+  -- The state after it has the counter of its last cycle.
+  pub ends-first :
+      planAt program k first second .cycles ≡ 1
+      → countOf (after program k first second .state) ≡ afterwards (firstCycle (courseAt program k first second) first)
+  ends-first e = ap countOf is-settled ∙ settled-one (courseAt program k first second) first second (same-cycles ∙ e)
+
+  pub ends-second :
+      planAt program k first second .cycles ≡ 2
+      → countOf (after program k first second .state) ≡ afterwards (secondCycle (courseAt program k first second) first second)
+  ends-second e =
+      ap countOf is-settled
+      ∙ settled-two (courseAt program k first second) first second
+      (course-once program (k .ram) (k .state) first second .once accepted-course (same-cycles ∙ e)) (same-cycles ∙ e)
 
   module _ (u : Undisturbed program (k .state) first) where
     still : Still (k .state) (courseAt program k first second)
     still = course-still program (k .ram) (k .state) first second u
-
-    pub ends-first :
-        planAt program k first second .cycles ≡ 1
-        → countOf (after program k first second .state) ≡ afterwards (firstCycle (courseAt program k first second) first)
-    ends-first e =
-        ap countOf is-settled
-        ∙ settled-one (courseAt program k first second) first second (still .counts accepted-course) (same-cycles ∙ e)
-
-    pub ends-second :
-        planAt program k first second .cycles ≡ 2
-        → countOf (after program k first second .state) ≡ afterwards (secondCycle (courseAt program k first second) first second)
-    ends-second e =
-        ap countOf is-settled
-        ∙ settled-two (courseAt program k first second) first second (still .counts accepted-course) (same-cycles ∙ e)
 
     -- ---- the count in the cycles of one step
     module _ (c n : ℕ) (h : Running c n (k .state)) where
@@ -196,11 +205,11 @@ module _ (program : List ℕ) (k : Standing) (first second : ℕ) (a : planAt pr
 
       pub first-counts : Counts c (n + 1) (firstCycle (courseAt program k first second) first)
       unfolding firstCycle
-      first-counts = counts-one c n (firstCycle (courseAt program k first second) first) course-counting first-before
+      first-counts = counts-one c n (firstCycle (courseAt program k first second) first) course-counting (still .counts accepted-course) first-before
 
       pub second-counts : Counts c (n + 1 + 1) (secondCycle (courseAt program k first second) first second)
       unfolding secondCycle
-      second-counts = counts-one c (n + 1) (secondCycle (courseAt program k first second) first second) course-counting (first-counts .to)
+      second-counts = counts-one c (n + 1) (secondCycle (courseAt program k first second) first second) course-counting refl (first-counts .to)
 
       step-at : At c (n + planAt program k first second .cycles) (countOf (after program k first second .state))
       step-at = go (eqb (planAt program k first second .cycles) 2) refl
@@ -228,6 +237,36 @@ module _ (program : List ℕ) (k : Standing) (first second : ℕ) (a : planAt pr
             at = step-at;
           }
 
+-- ---- the cycles of the last step of a history
+module _ {program ram : List ℕ} {s : State} {k : Progress} (first second : ℕ) (h : Steps program ram s k)
+    (a : planAt program k first second .number ≡ 0) (i : ℕ) (b : k .cycles < i) where
+  pub cycle-first : i ≡ k .cycles + 1 → cycle (more first second h a) i ≡ firstCycle (courseAt program k first second) first
+  unfolding cycle pick
+  cycle-first e = rw (lt-leb i (k .cycles) b, eq-eqb i (k .cycles + 1) e)
+
+  pub cycle-second : (i ≡ k .cycles + 1 → ⊥) → cycle (more first second h a) i ≡ secondCycle (courseAt program k first second) first second
+  unfolding cycle pick
+  cycle-second e = rw (lt-leb i (k .cycles) b, ne-eqb i (k .cycles + 1) e)
+
+-- After any history that is not empty the counter is that of its last cycle, counted or not.
+pub ends-last :
+    {program ram : List ℕ} {s : State} {k : Progress} (h : Steps program ram s k) → 1 ≤ k .cycles
+    → countOf (k .state) ≡ afterwards (cycle h (k .cycles))
+ends-last none l = absurd (omega arith)
+ends-last {program} (more {k = k} first second h a) l = go (eqb (planAt program k first second .cycles) 2) refl
+  where
+    go :
+        (b : Bool) → eqb (planAt program k first second .cycles) 2 ≡ b
+        → countOf (after program k first second .state) ≡ afterwards (cycle (more first second h a) (k .cycles + planAt program k first second .cycles))
+    go true e =
+        let w : planAt program k first second .cycles ≡ 2 = eqb-true _ _ e in
+        ends-second program k first second a w ∙ ap afterwards (sym (cycle-second first second h a _ (omega arith) (λ z. omega arith)))
+    go false e =
+        let d : planAt program k first second .cycles ≡ 2 → ⊥ = eqb-false _ _ e in
+        let o = one-or-two program k first second a in
+        let w : planAt program k first second .cycles ≡ 1 = omega (arith, o .0, o .1, d) in
+        ends-first program k first second a w ∙ ap afterwards (sym (cycle-first first second h a _ (omega arith) (omega arith)))
+
 -- The counter just started, no cycle counted yet.
 pub at-start : (c : ℕ) (s : State) → c < 256 → JustStarted c s → Running c 0 s
 at-start c s l h = record { counting = h .counting; at = record { t = h .t ∙ small c l; divider = h .divider } }
@@ -237,7 +276,7 @@ at-start c s l h = record { counting = h .counting; at = record { t = h .t ∙ s
 
 -- After a history of n cycles the counter holds c + n / 32 modulo 256.
 pub count-law :
-    {program ram : List ℕ} {s : State} {k : Standing} (c : ℕ) (h : Steps program ram s k) → AllUndisturbed h → Running c 0 s
+    {program ram : List ℕ} {s : State} {k : Progress} (c : ℕ) (h : Steps program ram s k) → AllUndisturbed h → Running c 0 s
     → Running c (k .cycles) (k .state)
 count-law c none u r = r
 count-law {program} c (more {k = k} first second h a) u r =
@@ -248,7 +287,7 @@ choose : (c i : ℕ) (b : Bool) (x y : Cycle) → (b ≡ true → Counts c i x) 
 choose c i b x y f g = either (Counts c i) b x y f g
 
 pub cycle-law :
-    {program ram : List ℕ} {s : State} {k : Standing} (c : ℕ) (h : Steps program ram s k) → AllUndisturbed h → Running c 0 s
+    {program ram : List ℕ} {s : State} {k : Progress} (c : ℕ) (h : Steps program ram s k) → AllUndisturbed h → Running c 0 s
     → (i : ℕ) → 1 ≤ i → i ≤ k .cycles → Counts c i (cycle h i)
 unfolding cycle
 cycle-law c none u r i l g = absurd (omega arith)

@@ -13,7 +13,7 @@ use lib.ListN.{length}
 use borrow.Author.Tests.{eqb-true, eqb-false, ne-eqb}
 use Rattle.isa.specs.Choice.{pick}
 use Rattle.machine.specs.declared.State.{State}
-use Rattle.chip.specs.Admission.{standing}
+use Rattle.chip.specs.Admission.{lentNumber}
 use Rattle.chip.specs.History.{RunAnswered, nothing-done, steps-done}
 use Rattle.chip.specs.Refusals.{Answered, taken, unchanged}
 use Rattle.chip.specs.Run.{begun, ended, runOf}
@@ -39,11 +39,11 @@ step-answered program ram s first second = go (eqb (planOf program ram s first s
         unchanged _ (exactly-from program ram s first second _ refl n) (rw (u .state, u .event, u .cycles)) (u .memory)
 
 pub run-answered : (program ram : List ℕ) (s : State) (samples : List ℕ) → RunAnswered program ram s samples (runOf program ram s samples)
-run-answered program ram s samples = go (eqb (standing (length program) (length ram) s) 0) refl
+run-answered program ram s samples = go (eqb (lentNumber (length program) (length ram) s) 0) refl
   where
-    stopped : (standing (length program) (length ram) s ≡ 0 → ⊥) → runOf program ram s samples ≡ ended (begun ram s) (standing (length program) (length ram) s)
+    stopped : (lentNumber (length program) (length ram) s ≡ 0 → ⊥) → runOf program ram s samples ≡ ended (begun ram s) (lentNumber (length program) (length ram) s)
     stopped n = unfold runOf pick in rw (ne-eqb _ _ n)
 
-    go : (b : Bool) → eqb (standing (length program) (length ram) s) 0 ≡ b → RunAnswered program ram s samples (runOf program ram s samples)
+    go : (b : Bool) → eqb (lentNumber (length program) (length ram) s) 0 ≡ b → RunAnswered program ram s samples (runOf program ram s samples)
     go true e = steps-done (eqb-true _ _ e) (run-history program ram s samples (eqb-true _ _ e))
     go false e = nothing-done (eqb-false _ _ e) (stopped (eqb-false _ _ e))

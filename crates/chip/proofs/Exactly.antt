@@ -7,30 +7,28 @@ use mathlib.Core.Path.{_≡_, refl, sym, _∙_, ap, subst}
 use native.Mathlib.Omega.{arith}
 use lib.Dec.{eqb}
 use lib.ListN.{length}
-use borrow.Author.Tests.{eqb-true, eqb-false, eq-eqb, ne-eqb}
+use borrow.Author.Tests.{eqb-true, eqb-false, ne-eqb}
 use Rattle.isa.specs.Choice.{pick}
 use Rattle.isa.specs.Numbers.{Answer, given, refused}
 use Rattle.isa.specs.Reading.{Sized, sized, lacks, nextPc, byteAt, instructionAt, decodedAt}
 use Rattle.isa.specs.Sheet.{entryOf}
-use Rattle.isa.specs.declared.Digit.the-variants.{MovdRead, MovdWrite, Orld, Anld}
+use Rattle.isa.specs.declared.DigitMove.the-variants.{MovdRead, MovdWrite, Orld, Anld}
 use Rattle.isa.specs.declared.Switch.the-variants.{EnI, DisI, Ent0Clk, SelMb0, SelMb1, SelRb0, SelRb1, EnTcnti, DisTcnti, StopTcnt, StrtCnt, StrtT}
 use Rattle.isa.specs.declared.Instruction.{Instruction}
 use Rattle.isa.specs.declared.Instruction.the-variants.{Alu, Accumulator, Djnz, Branch, Jmp, Jmpp, Control, MovA, Mov, MovData, MovAPsw, MovPswA, Movp, Movp3, MovxRead, MovxWrite, Xch, Xchd, Cpl, Clr, Logic, In, Outl, Expander, Dec, Inc, Call, Ret, Retr, MovAT, MovTA, Nop}
+use Rattle.machine.specs.Pins.{resetPin, isLow}
 use Rattle.machine.specs.State.{permitted, withPc}
 use Rattle.machine.specs.declared.State.{State}
 use Rattle.effects.specs.Moves.{quiet}
-use Rattle.effects.specs.Pins.{low}
 use Rattle.effects.specs.declared.Effect.{Effect}
 use Rattle.effects.specs.declared.Event.the-variants.{Quiet}
-use Rattle.effects.specs.declared.Write.the-variants.{Nothing}
 use Rattle.flow.specs.Stack.{pushed}
 use Rattle.execute.specs.Execute.{executed}
-use Rattle.chip.specs.Admission.{programAllowed, ramAllowed, sampleAllowed, sampleNumber, standing, admission}
-use Rattle.chip.specs.Refusals.{Fetches, Gives, program-length, ram-length, state-outside, sample-bits, no-first-byte, undefined-code, no-second-byte, no-table-byte}
+use Rattle.chip.specs.Admission.{programAllowed, ramAllowed, sampleAllowed, sampleNumber, lentNumber, admission}
+use Rattle.chip.specs.Refusals.{Fetches, Gives, program-length, ram-length, state-outside, sample-bits, no-first-byte, undefined-code, no-second-byte, no-table-byte, TableByte, of-movp, of-movp3, of-jmpp}
 use Rattle.chip.specs.Step.{externalCalls, timerCalls, pcAfter, resetState, called, withoutRequest, declined, accepted, done, carriedBy, carried, course, planBy, planOf, stepOf, ramAfter, written}
 use Rattle.chip.specs.declared.Course.{Course}
 use Rattle.chip.specs.declared.Plan.{Plan}
-use Rattle.chip.specs.declared.Outcome.{Outcome}
 use Rattle.chip.proofs.Choices.{either}
 
 -- A refused step returns its number, the state it got, no event and 0 cycles, and leaves RAM as it was.
@@ -57,61 +55,71 @@ number-of c s first second = go (eqb (c .number) 0) refl
     go true h = rw h (sym (eqb-true _ _ h))
     go false h = rw h
 
--- An instruction gives 0, or 5 for its table byte.
-table-5 : (b : Bool) (x y : Effect) → x .number ≡ 5 → y .number ≡ 0 → (pick b x y .number ≡ 0 → ⊥) → pick b x y .number ≡ 5
+-- An instruction gives 5, and only where the program lacks its table byte.
+record Lacking (program : List ℕ) (base a : ℕ) (i : Instruction) (e : Effect) : Type 0 where
+  at : ℕ
+  table-byte : TableByte base a i at
+  none-there : lacks program at ≡ true
+  five : e .number ≡ 5
+
+table-lacks :
+    (program : List ℕ) (base a : ℕ) (i : Instruction) (at : ℕ) → TableByte base a i at → (b : Bool) → lacks program at ≡ b → (x y : Effect)
+    → x .number ≡ 5 → y .number ≡ 0 → (pick b x y .number ≡ 0 → ⊥) → Lacking program base a i (pick b x y)
 unfolding pick
-table-5 true x y p q h = p
-table-5 false x y p q h = absurd (h q)
+table-lacks program base a i at w true e x y p q h = record { at = at; table-byte = w; none-there = e; five = p }
+table-lacks program base a i at w false e x y p q h = absurd (h q)
 
 module _ (program ram : List ℕ) (s : State) (base first second : ℕ) where
-  number-5 : (i : Instruction) → (executed i program ram s base first second .number ≡ 0 → ⊥) → executed i program ram s base first second .number ≡ 5
+  numbered :
+      (i : Instruction) → (executed i program ram s base first second .number ≡ 0 → ⊥)
+      → Lacking program base (s .a) i (executed i program ram s base first second)
   unfolding executed pushed
-  number-5 (Alu op from) h = absurd (h refl)
-  number-5 (Accumulator op) h = absurd (h refl)
-  number-5 (Djnz r d) h = absurd (h refl)
-  number-5 (Branch c d) h = absurd (h refl)
-  number-5 (Jmp a) h = absurd (h refl)
-  number-5 Jmpp h = table-5 _ _ _ refl refl h
-  number-5 (Control EnI) h = absurd (h refl)
-  number-5 (Control DisI) h = absurd (h refl)
-  number-5 (Control Ent0Clk) h = absurd (h refl)
-  number-5 (Control SelMb0) h = absurd (h refl)
-  number-5 (Control SelMb1) h = absurd (h refl)
-  number-5 (Control SelRb0) h = absurd (h refl)
-  number-5 (Control SelRb1) h = absurd (h refl)
-  number-5 (Control EnTcnti) h = absurd (h refl)
-  number-5 (Control DisTcnti) h = absurd (h refl)
-  number-5 (Control StopTcnt) h = absurd (h refl)
-  number-5 (Control StrtCnt) h = absurd (h refl)
-  number-5 (Control StrtT) h = absurd (h refl)
-  number-5 (MovA from) h = absurd (h refl)
-  number-5 (Mov to) h = absurd (h refl)
-  number-5 (MovData to d) h = absurd (h refl)
-  number-5 MovAPsw h = absurd (h refl)
-  number-5 MovPswA h = absurd (h refl)
-  number-5 Movp h = table-5 _ _ _ refl refl h
-  number-5 Movp3 h = table-5 _ _ _ refl refl h
-  number-5 (MovxRead r) h = absurd (h refl)
-  number-5 (MovxWrite r) h = absurd (h refl)
-  number-5 (Xch c) h = absurd (h refl)
-  number-5 (Xchd r) h = absurd (h refl)
-  number-5 (Cpl f) h = absurd (h refl)
-  number-5 (Clr f) h = absurd (h refl)
-  number-5 (Logic op l d) h = absurd (h refl)
-  number-5 (In l) h = absurd (h refl)
-  number-5 (Outl l) h = absurd (h refl)
-  number-5 (Expander MovdRead p) h = absurd (h refl)
-  number-5 (Expander MovdWrite p) h = absurd (h refl)
-  number-5 (Expander Orld p) h = absurd (h refl)
-  number-5 (Expander Anld p) h = absurd (h refl)
-  number-5 (Dec r) h = absurd (h refl)
-  number-5 (Inc c) h = absurd (h refl)
-  number-5 (Call a) h = absurd (h refl)
-  number-5 Ret h = absurd (h refl)
-  number-5 Retr h = absurd (h refl)
-  number-5 MovAT h = absurd (h refl)
-  number-5 MovTA h = absurd (h refl)
-  number-5 Nop h = absurd (h refl)
+  numbered (Alu op from) h = absurd (h refl)
+  numbered (Accumulator op) h = absurd (h refl)
+  numbered (Djnz r d) h = absurd (h refl)
+  numbered (Branch c d) h = absurd (h refl)
+  numbered (Jmp a) h = absurd (h refl)
+  numbered Jmpp h = table-lacks program base (s .a) Jmpp _ of-jmpp _ refl _ _ refl refl h
+  numbered (Control EnI) h = absurd (h refl)
+  numbered (Control DisI) h = absurd (h refl)
+  numbered (Control Ent0Clk) h = absurd (h refl)
+  numbered (Control SelMb0) h = absurd (h refl)
+  numbered (Control SelMb1) h = absurd (h refl)
+  numbered (Control SelRb0) h = absurd (h refl)
+  numbered (Control SelRb1) h = absurd (h refl)
+  numbered (Control EnTcnti) h = absurd (h refl)
+  numbered (Control DisTcnti) h = absurd (h refl)
+  numbered (Control StopTcnt) h = absurd (h refl)
+  numbered (Control StrtCnt) h = absurd (h refl)
+  numbered (Control StrtT) h = absurd (h refl)
+  numbered (MovA from) h = absurd (h refl)
+  numbered (Mov to) h = absurd (h refl)
+  numbered (MovData to d) h = absurd (h refl)
+  numbered MovAPsw h = absurd (h refl)
+  numbered MovPswA h = absurd (h refl)
+  numbered Movp h = table-lacks program base (s .a) Movp _ of-movp _ refl _ _ refl refl h
+  numbered Movp3 h = table-lacks program base (s .a) Movp3 _ of-movp3 _ refl _ _ refl refl h
+  numbered (MovxRead r) h = absurd (h refl)
+  numbered (MovxWrite r) h = absurd (h refl)
+  numbered (Xch c) h = absurd (h refl)
+  numbered (Xchd r) h = absurd (h refl)
+  numbered (Cpl f) h = absurd (h refl)
+  numbered (Clr f) h = absurd (h refl)
+  numbered (Logic op l d) h = absurd (h refl)
+  numbered (In l) h = absurd (h refl)
+  numbered (Outl l) h = absurd (h refl)
+  numbered (Expander MovdRead p) h = absurd (h refl)
+  numbered (Expander MovdWrite p) h = absurd (h refl)
+  numbered (Expander Orld p) h = absurd (h refl)
+  numbered (Expander Anld p) h = absurd (h refl)
+  numbered (Dec r) h = absurd (h refl)
+  numbered (Inc c) h = absurd (h refl)
+  numbered (Call a) h = absurd (h refl)
+  numbered Ret h = absurd (h refl)
+  numbered Retr h = absurd (h refl)
+  numbered MovAT h = absurd (h refl)
+  numbered MovTA h = absurd (h refl)
+  numbered Nop h = absurd (h refl)
 
 module _ (program ram : List ℕ) (s : State) (first second : ℕ) where
   abbrev pub G : ℕ → Type 0
@@ -121,9 +129,9 @@ module _ (program ram : List ℕ) (s : State) (first second : ℕ) where
   given-by e g = subst (λ (k : ℕ). G k) e g
 
   -- 1, 2, 3.
-  standing-gives : (n : ℕ) → standing (length program) (length ram) s ≡ n → (n ≡ 0 → ⊥) → G n
-  unfolding standing pick
-  standing-gives n e z = go (programAllowed (length program)) (ramAllowed (length ram)) (permitted s) refl refl refl e
+  lent-gives : (n : ℕ) → lentNumber (length program) (length ram) s ≡ n → (n ≡ 0 → ⊥) → G n
+  unfolding lentNumber pick
+  lent-gives n e z = go (programAllowed (length program)) (ramAllowed (length ram)) (permitted s) refl refl refl e
     where
       go :
           (p r q : Bool) → programAllowed (length program) ≡ p → ramAllowed (length ram) ≡ r → permitted s ≡ q
@@ -133,58 +141,58 @@ module _ (program ram : List ℕ) (s : State) (first second : ℕ) where
       go true true false hp hr hq e = given-by e (state-outside hp hr hq)
       go true true true hp hr hq e = absurd (z (sym e))
 
-  pub record Stands : Type 0 where
+  pub record Allowed : Type 0 where
     pub program-allowed : programAllowed (length program) ≡ true
     pub ram-allowed : ramAllowed (length ram) ≡ true
     pub state-permitted : permitted s ≡ true
 
-  pub stands : standing (length program) (length ram) s ≡ 0 → Stands
-  unfolding standing pick
-  stands e = go (programAllowed (length program)) (ramAllowed (length ram)) (permitted s) refl refl refl e
+  pub allowed : lentNumber (length program) (length ram) s ≡ 0 → Allowed
+  unfolding lentNumber pick
+  allowed e = go (programAllowed (length program)) (ramAllowed (length ram)) (permitted s) refl refl refl e
     where
       go :
           (p r q : Bool) → programAllowed (length program) ≡ p → ramAllowed (length ram) ≡ r → permitted s ≡ q
-          → _≡_ {A = ℕ} (pick (not p) 1 (pick (not r) 2 (pick (not q) 3 0))) 0 → Stands
+          → _≡_ {A = ℕ} (pick (not p) 1 (pick (not r) 2 (pick (not q) 3 0))) 0 → Allowed
       go false r q hp hr hq e = absurd (omega arith)
       go true false q hp hr hq e = absurd (omega arith)
       go true true false hp hr hq e = absurd (omega arith)
       go true true true hp hr hq e = record { program-allowed = hp; ram-allowed = hr; state-permitted = hq }
 
   -- Where 1, 2 and 3 are not given, the samples alone decide.
-  pub samples-decide : standing (length program) (length ram) s ≡ 0 → admission (length program) (length ram) s first second ≡ sampleNumber first second
+  pub samples-decide : lentNumber (length program) (length ram) s ≡ 0 → admission (length program) (length ram) s first second ≡ sampleNumber first second
   unfolding admission pick
   samples-decide h = rw h
 
   -- Where one of them is given, it is the step's.
-  pub standing-refuses :
-      (standing (length program) (length ram) s ≡ 0 → ⊥)
-      → (stepOf program ram s first second ≡ record { number = standing (length program) (length ram) s; state = s; event = Quiet; cycles = 0 })
+  pub lent-refuses :
+      (lentNumber (length program) (length ram) s ≡ 0 → ⊥)
+      → (stepOf program ram s first second ≡ record { number = lentNumber (length program) (length ram) s; state = s; event = Quiet; cycles = 0 })
       × (ramAfter program ram s first second ≡ ram)
   unfolding course admission declined planBy written pick
-  standing-refuses z = (simp (ne-eqb (standing (length program) (length ram) s) 0 z), simp (ne-eqb (standing (length program) (length ram) s) 0 z))
+  lent-refuses z = (simp (ne-eqb (lentNumber (length program) (length ram) s) 0 z), simp (ne-eqb (lentNumber (length program) (length ram) s) 0 z))
 
-  pub admitted-stands : admission (length program) (length ram) s first second ≡ 0 → standing (length program) (length ram) s ≡ 0
+  pub admitted-stands : admission (length program) (length ram) s first second ≡ 0 → lentNumber (length program) (length ram) s ≡ 0
   unfolding admission pick
-  admitted-stands e = go (eqb (standing (length program) (length ram) s) 0) refl e
+  admitted-stands e = go (eqb (lentNumber (length program) (length ram) s) 0) refl e
     where
       go :
-          (p : Bool) → eqb (standing (length program) (length ram) s) 0 ≡ p
-          → pick (not p) (standing (length program) (length ram) s) (pick (not (sampleAllowed first && sampleAllowed second)) 6 0) ≡ 0
-          → standing (length program) (length ram) s ≡ 0
+          (p : Bool) → eqb (lentNumber (length program) (length ram) s) 0 ≡ p
+          → pick (not p) (lentNumber (length program) (length ram) s) (pick (not (sampleAllowed first && sampleAllowed second)) 6 0) ≡ 0
+          → lentNumber (length program) (length ram) s ≡ 0
       go true h e = eqb-true _ _ h
       go false h e = e
 
   -- And 6.
   admission-gives : (n : ℕ) → admission (length program) (length ram) s first second ≡ n → (n ≡ 0 → ⊥) → G n
   unfolding admission pick
-  admission-gives n e z = go (eqb (standing (length program) (length ram) s) 0) (sampleAllowed first && sampleAllowed second) refl refl e
+  admission-gives n e z = go (eqb (lentNumber (length program) (length ram) s) 0) (sampleAllowed first && sampleAllowed second) refl refl e
     where
       go :
-          (p q : Bool) → eqb (standing (length program) (length ram) s) 0 ≡ p → (sampleAllowed first && sampleAllowed second) ≡ q
-          → pick (not p) (standing (length program) (length ram) s) (pick (not q) 6 0) ≡ n → G n
-      go false q hp hq e = standing-gives n e z
+          (p q : Bool) → eqb (lentNumber (length program) (length ram) s) 0 ≡ p → (sampleAllowed first && sampleAllowed second) ≡ q
+          → pick (not p) (lentNumber (length program) (length ram) s) (pick (not q) 6 0) ≡ n → G n
+      go false q hp hq e = lent-gives n e z
       go true false hp hq e =
-          let h = stands (eqb-true _ _ hp) in
+          let h = allowed (eqb-true _ _ hp) in
           given-by e (sample-bits (h .program-allowed) (h .ram-allowed) (h .state-permitted) hq)
       go true true hp hq e = absurd (z (sym e))
 
@@ -219,21 +227,21 @@ module _ (program ram : List ℕ) (s : State) (first second : ℕ) where
           table : (b : Bool) → eqb (effect .number) 0 ≡ b → pick b (accepted effect (entryOf (byteAt program (s .pc)) .cycles)) (declined (effect .number) s) .number ≡ n → G n
           table true t e = absurd (z (sym e))
           table false t e =
-              let five : effect .number ≡ 5 = number-5 program ram _ _ first second i (eqb-false _ _ t) in
-              given-by (sym five ∙ e) (no-table-byte i k f h five)
+              let l = numbered program ram (withPc s (pcAfter k (s .pc))) (s .pc) first second i (eqb-false _ _ t) in
+              given-by (sym (l .five) ∙ e) (no-table-byte i k (l .at) f h (l .table-byte) (l .none-there))
 
   -- A step that gives a number has the table's reason for it.
   pub exactly-from : (n : ℕ) → stepOf program ram s first second .number ≡ n → (n ≡ 0 → ⊥) → G n
   unfolding course accepted declined pick
   exactly-from n e z =
-      go (eqb number 0) (low 27 first) (externalCalls s first) (timerCalls s) refl refl refl refl
+      go (eqb number 0) (isLow resetPin first) (externalCalls s first) (timerCalls s) refl refl refl refl
       (sym (number-of (course program ram s first second) s first second) ∙ e)
     where
       number : ℕ
       number = admission (length program) (length ram) s first second
 
       go :
-          (p q r t : Bool) → eqb number 0 ≡ p → low 27 first ≡ q → externalCalls s first ≡ r → timerCalls s ≡ t
+          (p q r t : Bool) → eqb number 0 ≡ p → isLow resetPin first ≡ q → externalCalls s first ≡ r → timerCalls s ≡ t
           → pick (not p) (declined number s) (pick q (accepted (quiet (resetState s)) 1) (pick r (accepted (called s 3) 2)
           (pick t (accepted (called (withoutRequest s) 7) 2) (carried program ram s first second)))) .number ≡ n → G n
       go false q r t hp hq hr ht e = admission-gives n e z
@@ -256,6 +264,12 @@ module _ (program ram : List ℕ) (s : State) (first second : ℕ) where
   unfolding carried declined
   reads f n e = rw (comes-to f, e)
 
+  five : (i : Instruction) (k at : ℕ) → TableByte (s .pc) (s .a) i at → lacks program at ≡ true → executed i program ram (withPc s (pcAfter k (s .pc))) (s .pc) first second .number ≡ 5
+  unfolding executed pick
+  five i k at of-movp l = rw l
+  five i k at of-movp3 l = rw l
+  five i k at of-jmpp l = rw l
+
   table :
       (i : Instruction) (k : ℕ) → instructionAt program (s .pc) ≡ given (sized i k)
       → executed i program ram (withPc s (pcAfter k (s .pc))) (s .pc) first second .number ≡ 5 → carried program ram s first second .number ≡ 5
@@ -263,7 +277,7 @@ module _ (program ram : List ℕ) (s : State) (first second : ℕ) where
   table i k e t = rw (e, t)
 
   course-gives : (n : ℕ) → G n → course program ram s first second .number ≡ n
-  unfolding admission standing instructionAt decodedAt pick
+  unfolding admission lentNumber instructionAt decodedAt pick
   course-gives n (program-length p) = not-admitted 1 (rw p) (λ z. omega arith)
   course-gives n (ram-length p r) = not-admitted 2 (rw (p, r)) (λ z. omega arith)
   course-gives n (state-outside p r q) = not-admitted 3 (rw (p, r, q)) (λ z. omega arith)
@@ -271,7 +285,7 @@ module _ (program ram : List ℕ) (s : State) (first second : ℕ) where
   course-gives n (no-first-byte f l) = reads f 5 (rw l)
   course-gives n (undefined-code f l u) = reads f 4 (rw (l, u))
   course-gives n (no-second-byte f l u o m) = reads f 5 (rw (l, u, o, m))
-  course-gives n (no-table-byte i k f e t) = ap (λ (c : Course). c .number) (comes-to f) ∙ table i k e t
+  course-gives n (no-table-byte i k at f e w l) = ap (λ (c : Course). c .number) (comes-to f) ∙ table i k e (five i k at w l)
 
   pub exactly-to : (n : ℕ) → G n → stepOf program ram s first second .number ≡ n
   exactly-to n g = number-of (course program ram s first second) s first second ∙ course-gives n g

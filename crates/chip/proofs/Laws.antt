@@ -1,12 +1,12 @@
--- Laws of an accepted step and of a run in pieces.
+-- An accepted step leaves a permitted state, and RAM keeps its length: so 1, 2 and 3, once not given, are not given again.
 -- Assumes nothing.
-use Prim.Native.Nat.{ℕ, zero, suc, _+_, _*_, _/_, _%_, _≤_, _<_}
-use mathlib.Core.Bool.{Bool, true, false, not, _&&_, false≢true}
-use mathlib.Core.List.{List, [], _∷_, _++_}
-use mathlib.Core.Path.{_≡_, refl, sym, ap, _∙_, subst}
+use Prim.Native.Nat.{ℕ, _+_, _*_, _/_, _%_, _≤_, _<_}
+use mathlib.Core.Bool.{Bool, true, false, _&&_, false≢true}
+use mathlib.Core.List.{List}
+use mathlib.Core.Path.{_≡_, refl, ap, _∙_}
 use native.Mathlib.Omega.{arith}
 use lib.Dec.{eqb, ltb, lit≤}
-use lib.ListN.{length, getD, set, drop, length-set, length-append}
+use lib.ListN.{length, set, length-set}
 use borrow.Author.Tests.{eqb-true, eqb-false, not-true, not-false, ltb-true, lt-ltb, eq-eqb}
 use Rattle.isa.specs.Choice.{pick}
 use Rattle.isa.specs.Numbers.{Answer, given, refused}
@@ -17,23 +17,18 @@ use Rattle.machine.specs.State.{permitted, withPc, withInterrupts}
 use Rattle.machine.specs.declared.Count.{Count}
 use Rattle.machine.specs.declared.Counting.{Counting}
 use Rattle.machine.specs.declared.Counting.the-variants.{Stopped, Timer, Counter}
-use Rattle.machine.specs.declared.Interrupts.{Interrupts}
 use Rattle.machine.specs.declared.State.{State}
 use Rattle.effects.specs.declared.Effect.{Effect}
 use Rattle.effects.specs.declared.Write.{Write}
 use Rattle.effects.specs.declared.Write.the-variants.{Nothing, Byte, Pair}
-use Rattle.execute.proofs.Within.{Within, WithinSizes, push-within, within}
-use Rattle.chip.specs.Admission.{standing}
-use Rattle.chip.specs.Run.{Standing, begun, standingOf, runOver}
-use Rattle.chip.specs.History.{Steps, none, more, Reads, HistoryOf}
-use Rattle.chip.specs.Step.{declined, accepted, resetState, called, withoutRequest, pcAfter, done, carriedBy, carried, course, ticked, settled, planBy, planOf, stepOf, ramAfter, written}
+use Rattle.execute.proofs.Within.{WithinSizes, push-within, within}
+use Rattle.chip.specs.Admission.{lentNumber}
+use Rattle.chip.specs.Step.{declined, accepted, resetState, called, withoutRequest, pcAfter, done, carriedBy, carried, course, ticked, settled, planOf, stepOf, ramAfter, written}
 use Rattle.chip.specs.declared.Course.{Course}
 use Rattle.chip.specs.declared.Outcome.{Outcome}
-use Rattle.chip.specs.declared.Plan.{Plan}
 use Rattle.chip.proofs.Choices.{either}
 use Rattle.chip.proofs.Cycles.{course-number, plan-state}
-use Rattle.chip.proofs.Exactly.{stands, admitted-stands}
-use Rattle.chip.proofs.Linking.{over-history, over-through}
+use Rattle.chip.proofs.Exactly.{allowed, admitted-stands}
 
 -- ---- a step that is accepted leaves a permitted state
 all-three : (x y z : Bool) → (x && y && z) ≡ true → (x ≡ true) × (y ≡ true) × (z ≡ true)
@@ -103,7 +98,7 @@ unfolding course
 course-fits program ram s first second =
     either Fits _ _ _ (λ t. declined-fits _ s (eqb-false _ _ (not-true _ t)))
     (λ t.
-    let w = stands program ram s first second (admitted-stands program ram s first second (eqb-true _ _ (not-false _ t))) in
+    let w = allowed program ram s first second (admitted-stands program ram s first second (eqb-true _ _ (not-false _ t))) in
     let h = permitted-within s (w .state-permitted) in
     either Fits _ _ _ (λ u. accepted-fits _ 1 (reset-within s h))
     (λ u. either Fits _ _ _ (λ v. accepted-fits _ 2 (called-within s 3 h (lit≤ tt)))
@@ -156,39 +151,10 @@ ram-length program ram s first second = written-length ram _
 -- So 1, 2 and 3, once not given, are not given again: of what a call of the step answered and the RAM that it left.
 pub still-stands :
     (program ram : List ℕ) (s : State) (first second : ℕ) (r : Outcome) (left : List ℕ) → r ≡ stepOf program ram s first second
-    → left ≡ ramAfter program ram s first second → r .number ≡ 0 → standing (length program) (length ram) s ≡ 0
-    → standing (length program) (length left) (r .state) ≡ 0
-unfolding standing pick
+    → left ≡ ramAfter program ram s first second → r .number ≡ 0 → lentNumber (length program) (length ram) s ≡ 0
+    → lentNumber (length program) (length left) (r .state) ≡ 0
+unfolding lentNumber pick
 still-stands program ram s first second r left er el a z =
-    let w = stands program ram s first second z in
+    let w = allowed program ram s first second z in
     let p = accepted-permitted program ram s first second (rw er at a) in
     rw (er, el, ram-length program ram s first second, w .program-allowed, w .ram-allowed, p)
-
--- ---- a run over samples cut in two is the run over the whole
-at-front : (xs ys : List ℕ) (i : ℕ) → i < length xs → getD (xs ++ ys) i 0 ≡ getD xs i 0
-at-front [] ys i l = absurd (omega arith)
-at-front (x ∷ xs) ys zero l = refl
-at-front (x ∷ xs) ys (suc i) l = at-front xs ys i (omega arith)
-
-longer-length : (xs ys : List ℕ) → length xs ≤ length (xs ++ ys)
-longer-length xs ys = rw length-append (omega arith)
-
-reads-more : {program ram : List ℕ} {s : State} {k : Standing} (xs ys : List ℕ) (h : Steps program ram s k) → Reads xs h → Reads (xs ++ ys) h
-reads-more xs ys none d = tt
-reads-more xs ys (more {k = k} first second h a) d =
-    let l = longer-length xs ys in (
-      reads-more xs ys h (d .0),
-      d .1 ∙ sym (at-front xs ys (k .cycles) (omega (arith, d .3))),
-      d .2 ∙ sym (at-front xs ys (k .cycles + 1) (omega (arith, d .3))),
-      omega (arith, d .3, l),
-    )
-
--- The first run used the samples of its cycles; the second has the rest.
-pub run-cut :
-    (program ram : List ℕ) (s : State) (xs ys : List ℕ) → runOver program xs 0 (begun ram s) .ran .number ≡ 0
-    → runOver program (xs ++ ys) 0 (begun ram s)
-    ≡ runOver program (drop (runOver program xs 0 (begun ram s) .ran .used) (xs ++ ys)) 0 (standingOf (runOver program xs 0 (begun ram s)))
-run-cut program ram s xs ys n =
-    let h = over-history program ram s xs in
-    over-through (xs ++ ys) (h .steps) (reads-more xs ys (h .steps) (h .reads))
-    ∙ rw (h .is) (rw (h .used) refl)

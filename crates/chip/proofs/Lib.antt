@@ -1,11 +1,13 @@
 pub mod Answering
 pub mod Bench
 pub mod Choices
+pub mod Cutting
 pub mod Cycles
 pub mod Demand1
 pub mod Demand3
 pub mod Exactly
 pub mod Fetches
+pub mod Fresh
 pub mod Lasting
 pub mod Laws
 pub mod Linking

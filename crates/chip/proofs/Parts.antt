@@ -1,6 +1,6 @@
 -- What a history begins with, and the step in which a cycle lies.
 -- Assumes nothing.
-use Prim.Native.Nat.{ℕ, _+_, _≤_, _<_}
+use Prim.Native.Nat.{ℕ, _+_, _≤_}
 use mathlib.Core.Bool.{Bool, true, false}
 use mathlib.Core.List.{List}
 use mathlib.Core.Path.{_≡_, refl, sym, _∙_}
@@ -10,7 +10,7 @@ use borrow.Author.Tests.{leb-true, leb-false, le-leb}
 use Rattle.isa.specs.Choice.{pick}
 use Rattle.machine.specs.declared.State.{State}
 use Rattle.chip.specs.History.{planAt, Steps, none, more, cycle, Reads, AllUndisturbed, History, longer, Begins, whole, then, StepWith}
-use Rattle.chip.specs.Run.{Standing}
+use Rattle.chip.specs.Run.{Progress}
 
 module _ {program ram : List ℕ} {s : State} where
   pub begins-le : {p q : History program ram s} → Begins p q → p .end .cycles ≤ q .end .cycles
@@ -41,7 +41,7 @@ module _ {program ram : List ℕ} {s : State} where
       begins-cycle b i l ∙ sym (earlier q first second a i (omega (arith, w)))
 
   find-more :
-      {k : Standing} (i first second : ℕ) (h : Steps program ram s k) (a : planAt program k first second .number ≡ 0)
+      {k : Progress} (i first second : ℕ) (h : Steps program ram s k) (a : planAt program k first second .number ≡ 0)
       → i ≤ k .cycles + planAt program k first second .cycles
       → (i ≤ k .cycles → StepWith i (record { end = k; steps = h }))
       → (b : Bool) → leb i (k .cycles) ≡ b
@@ -68,6 +68,6 @@ module _ {program ram : List ℕ} {s : State} where
         begins = whole;
       }
 
-  pub step-with : {k : Standing} (i : ℕ) (h : Steps program ram s k) → 1 ≤ i → i ≤ k .cycles → StepWith i (record { end = k; steps = h })
+  pub step-with : {k : Progress} (i : ℕ) (h : Steps program ram s k) → 1 ≤ i → i ≤ k .cycles → StepWith i (record { end = k; steps = h })
   step-with i none l g = absurd (omega arith)
   step-with i (more first second h a) l g = find-more i first second h a g (λ e. step-with i h l e) _ refl

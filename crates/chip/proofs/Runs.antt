@@ -1,89 +1,100 @@
 -- Laws of the run, where i samples are used.
 -- Assumes nothing.
-use Prim.Native.Nat.{ℕ, zero, suc, pred, _+_, _≤_, _<_}
-use mathlib.Core.List.{List, [], _∷_}
+use Prim.Native.Nat.{ℕ, suc, _+_, _≤_, _<_}
+use mathlib.Core.Bool.{Bool, true, false}
+use mathlib.Core.List.{List, [], _∷_, _++_}
 use mathlib.Core.Path.{_≡_, refl, sym, ap, _∙_}
 use native.Mathlib.Numerals.{add-one}
 use native.Mathlib.Omega.{arith}
+use lib.Dec.{eqb}
 use lib.ListN.{length, getD, drop, length-drop}
-use lib.Seq.{drop-cons, drop-drop}
-use borrow.Author.Tests.{eq-eqb, ne-eqb}
+use lib.Seq.{drop-cons}
+use borrow.Author.Tests.{eqb-true, eqb-false, eq-eqb, ne-eqb}
 use Rattle.isa.specs.Choice.{pick}
-use Rattle.chip.specs.Run.{Standing, Ended, gone, ended, runOver}
+use Rattle.effects.specs.declared.Event.{Event}
+use Rattle.chip.specs.Run.{Progress, gone, lastFrom, ended, runOver}
 use Rattle.chip.specs.Step.{planOf, stepOf, ramAfter, written}
 use Rattle.chip.specs.declared.Outcome.{Outcome}
 use Rattle.chip.specs.declared.Plan.{Plan}
 use Rattle.chip.proofs.Exactly.{refused-unchanged}
 use Rattle.chip.proofs.Lasting.{Busy, plan-busy}
 
-skips : (program xs : List ℕ) (k : ℕ) (m : Standing) → runOver program xs k m ≡ runOver program (drop k xs) 0 m
-unfolding runOver
-skips program [] zero m = refl
-skips program [] (suc k) m = refl
-skips program (x ∷ xs) zero m = refl
-skips program (x ∷ xs) (suc k) m = skips program xs k m
+-- The last of some events and one more is that one.
+pub last-more : (d e : Event) (es : List Event) → lastFrom d (es ++ (e ∷ [])) ≡ e
+last-more d e [] = refl
+last-more d e (f ∷ fs) = last-more f e fs
 
-short : (program xs : List ℕ) (m : Standing) → length xs ≤ 1 → runOver program xs 0 m ≡ ended m 0
+short : (program xs : List ℕ) (m : Progress) → length xs ≤ 1 → runOver program xs m ≡ ended m 0
 unfolding runOver
 short program [] m h = refl
 short program (x ∷ []) m h = refl
 short program (x ∷ (y ∷ zs)) m h = absurd (omega arith)
 
-module _ (program samples : List ℕ) (i : ℕ) (m : Standing) where
+module _ (program samples : List ℕ) (i : ℕ) (m : Progress) where
   -- The step that comes next.
   abbrev pub next : Plan
   next = planOf program (m .ram) (m .state) (getD samples i 0) (getD samples (i + 1) 0)
 
-  pub run-short : length samples ≤ i + 1 → runOver program (drop i samples) 0 m ≡ ended m 0
+  pub run-short : length samples ≤ i + 1 → runOver program (drop i samples) m ≡ ended m 0
   run-short h = short program (drop i samples) m (rw length-drop (omega arith))
+
+  one-left : suc i < length samples → drop (suc i) samples ≡ getD samples (i + 1) 0 ∷ drop (suc (suc i)) samples
+  one-left h = rw add-one (drop-cons samples (suc i) 0 h)
 
   two-left : i + 1 < length samples → drop i samples ≡ getD samples i 0 ∷ (getD samples (i + 1) 0 ∷ drop (suc (suc i)) samples)
   two-left h =
       let p : suc i < length samples = omega arith in
       let q : i < length samples = omega arith in
-      rw add-one (drop-cons samples i 0 q ∙ ap (λ l. getD samples i 0 ∷ l) (drop-cons samples (suc i) 0 p))
+      drop-cons samples i 0 q ∙ ap (λ l. getD samples i 0 ∷ l) (one-left p)
 
-  rest : suc i < length samples → getD samples (i + 1) 0 ∷ drop (suc (suc i)) samples ≡ drop (suc i) samples
-  rest q = rw add-one (sym (drop-cons samples (suc i) 0 q))
-
-  pub run-refused : i + 1 < length samples → (next .number ≡ 0 → ⊥) → runOver program (drop i samples) 0 m ≡ ended m (next .number)
+  pub run-refused : i + 1 < length samples → (next .number ≡ 0 → ⊥) → runOver program (drop i samples) m ≡ ended m (next .number)
   unfolding runOver pick
   run-refused h n = rw (two-left h, ne-eqb _ _ n)
 
-  goes :
-      i + 1 < length samples → next .number ≡ 0
-      → runOver program (drop i samples) 0 m ≡ runOver program (getD samples (i + 1) 0 ∷ drop (suc (suc i)) samples) (pred (next .cycles)) (gone m next)
+  goes-one :
+      i + 1 < length samples → next .number ≡ 0 → next .cycles ≡ 1
+      → runOver program (drop i samples) m ≡ runOver program (getD samples (i + 1) 0 ∷ drop (suc (suc i)) samples) (gone m next)
   unfolding runOver pick
-  goes h n = rw (two-left h, eq-eqb _ _ n)
+  goes-one h n e = rw (two-left h, eq-eqb _ _ n, eq-eqb _ _ e)
+
+  goes-two :
+      i + 1 < length samples → next .number ≡ 0 → (next .cycles ≡ 1 → ⊥)
+      → runOver program (drop i samples) m ≡ runOver program (drop (suc (suc i)) samples) (gone m next)
+  unfolding runOver pick
+  goes-two h n e = rw (two-left h, eq-eqb _ _ n, ne-eqb _ _ e)
+
+  busy : Busy next
+  busy = plan-busy program (m .ram) (m .state) (getD samples i 0) (getD samples (i + 1) 0)
 
   pub run-step :
       i + 1 < length samples → next .number ≡ 0
-      → runOver program (drop i samples) 0 m ≡ runOver program (drop (i + next .cycles) samples) 0 (gone m next)
-  run-step h n =
-      let q : suc i < length samples = omega arith in
-      let b : 1 ≤ next .cycles = plan-busy program (m .ram) (m .state) (getD samples i 0) (getD samples (i + 1) 0) .some n in
-      let e : suc i + pred (next .cycles) ≡ i + next .cycles = omega arith in
-      goes h n
-      ∙ skips program _ (pred (next .cycles)) (gone m next)
-      ∙ ap (λ l. runOver program l 0 (gone m next))
-      (ap (drop (pred (next .cycles))) (rest q)
-      ∙ drop-drop (pred (next .cycles)) (suc i) samples ∙ ap (λ k. drop k samples) e)
+      → runOver program (drop i samples) m ≡ runOver program (drop (i + next .cycles) samples) (gone m next)
+  run-step h n = go (eqb (next .cycles) 1) refl
+    where
+      go : (b : Bool) → eqb (next .cycles) 1 ≡ b → runOver program (drop i samples) m ≡ runOver program (drop (i + next .cycles) samples) (gone m next)
+      go true t =
+          let e : next .cycles ≡ 1 = eqb-true _ _ t in
+          let j : suc i ≡ i + next .cycles = omega arith in
+          goes-one h n e ∙ ap (λ l. runOver program l (gone m next)) (sym (one-left (omega arith)) ∙ ap (λ k. drop k samples) j)
+      go false t =
+          let e : next .cycles ≡ 1 → ⊥ = eqb-false _ _ t in
+          let some : 1 ≤ next .cycles = busy .some n in
+          let few : next .cycles ≤ 2 = busy .few n in
+          let j : suc (suc i) ≡ i + next .cycles = omega arith in
+          goes-two h n e ∙ ap (λ k. runOver program (drop k samples) (gone m next)) j
 
   -- The same of what a call of the step answered and the RAM that it left.
   module _ (r : Outcome) (left : List ℕ)
       (er : r ≡ stepOf program (m .ram) (m .state) (getD samples i 0) (getD samples (i + 1) 0))
       (el : left ≡ ramAfter program (m .ram) (m .state) (getD samples i 0) (getD samples (i + 1) 0)) where
-    busy : Busy next
-    busy = plan-busy program (m .ram) (m .state) (getD samples i 0) (getD samples (i + 1) 0)
-
     pub spent : r .number ≡ 0 → (1 ≤ r .cycles) × (r .cycles ≤ 2)
     spent n = rw er (busy .some (rw er at n), busy .few (rw er at n))
 
     pub went :
         i + 1 < length samples → r .number ≡ 0
-        → runOver program (drop (i + r .cycles) samples) 0
-        (record { ram = left; state = r .state; used = m .used + r .cycles; cycles = m .cycles + r .cycles; event = r .event })
-        ≡ runOver program (drop i samples) 0 m
+        → runOver program (drop (i + r .cycles) samples)
+        (record { ram = left; state = r .state; used = m .used + r .cycles; cycles = m .cycles + r .cycles; events = m .events ++ (r .event ∷ []) })
+        ≡ runOver program (drop i samples) m
     went h n = rw (er, el) (sym (run-step h (rw er at n)))
 
     unmoved : (r .number ≡ 0 → ⊥) → left ≡ m .ram
@@ -92,8 +103,8 @@ module _ (program samples : List ℕ) (i : ℕ) (m : Standing) where
 
     pub halted :
         i + 1 < length samples → (r .number ≡ 0 → ⊥)
-        → runOver program (drop i samples) 0 m
-        ≡ ended (record { ram = left; state = r .state; used = m .used; cycles = m .cycles; event = m .event }) (r .number)
+        → runOver program (drop i samples) m
+        ≡ ended (record { ram = left; state = r .state; used = m .used; cycles = m .cycles; events = m .events }) (r .number)
     halted h n =
         let u = refused-unchanged program (m .ram) (m .state) (getD samples i 0) (getD samples (i + 1) 0) (rw er at n) in
         run-refused h (rw er at n) ∙ rw (unmoved n, er, u .state)

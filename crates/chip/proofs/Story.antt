@@ -9,7 +9,7 @@ use Rattle.isa.specs.Reading.{instructionAt, decodedAt}
 use Rattle.isa.specs.Sheet.{kindOf, entryOf}
 use Rattle.flow.specs.Stack.{pushed}
 use Rattle.execute.specs.Execute.{executed}
-use Rattle.chip.specs.Admission.{standing, admission}
+use Rattle.chip.specs.Admission.{lentNumber, admission}
 use Rattle.chip.specs.Run.{runOver, runOf}
 use Rattle.chip.specs.Step.{declined, accepted, resetState, called, withoutRequest, done, carried, course, ticked, settled, planBy, written}
 use Rattle.chip.specs.Story.{sight, waited}
@@ -20,5 +20,5 @@ pub story :
     ∷ record { number = 0; cycles = 40; pc = 0x00E; t = 0; tf = true; request = true; service = false }
     ∷ record { number = 0; cycles = 42; pc = 0x007; t = 0; tf = true; request = false; service = true }
     ∷ []
-unfolding runOf runOver planBy settled ticked course carried done accepted declined resetState called withoutRequest written admission standing executed pushed instructionAt decodedAt entryOf kindOf pick
+unfolding runOf runOver planBy settled ticked course carried done accepted declined resetState called withoutRequest written admission lentNumber executed pushed instructionAt decodedAt entryOf kindOf pick
 story = refl

@@ -20,8 +20,8 @@ abbrev pub sampleAllowed : ℕ → Bool
 sampleAllowed sample = ltb sample (2 ^ 28)
 
 -- The number that the program's and the RAM's lengths and the state give, 0 if none.
-unfoldable pub standing : ℕ → ℕ → State → ℕ
-standing program ram s =
+unfoldable pub lentNumber : ℕ → ℕ → State → ℕ
+lentNumber program ram s =
     pick (not (programAllowed program)) 1
     (pick (not (ramAllowed ram)) 2
     (pick (not (permitted s)) 3 0))
@@ -32,4 +32,4 @@ sampleNumber first second = pick (not (sampleAllowed first && sampleAllowed seco
 
 -- Both, in this order.
 unfoldable pub admission : ℕ → ℕ → State → ℕ → ℕ → ℕ
-admission program ram s first second = pick (not (eqb (standing program ram s) 0)) (standing program ram s) (sampleNumber first second)
+admission program ram s first second = pick (not (eqb (lentNumber program ram s) 0)) (lentNumber program ram s) (sampleNumber first second)

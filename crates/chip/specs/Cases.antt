@@ -4,11 +4,8 @@ use Prim.Native.Nat.{ℕ, zero, suc, _-_, _+_}
 use mathlib.Core.Bool.{true}
 use mathlib.Core.List.{List, [], _∷_, _++_}
 use lib.ListN.{length, getD, set}
-use Rattle.machine.specs.Counting.{oneIf}
-use Rattle.machine.specs.State.{powerUp, withCore, withA, withPc, withPsw, withFlags, withCount, withInterrupts, withPorts}
-use Rattle.machine.specs.declared.Count.{Count}
-use Rattle.machine.specs.declared.Interrupts.{Interrupts}
-use Rattle.machine.specs.declared.Ports.{Ports}
+use Rattle.isa.specs.Choice.{oneIf}
+use Rattle.machine.specs.State.{powerUp, withCore, withPc, withPsw, withFlags, withCount, withInterrupts, withPorts}
 use Rattle.machine.specs.declared.State.{State}
 use Rattle.effects.specs.Psw.{bitC, bitAc, sp}
 use Rattle.chip.specs.Run.{Ended, runOf}
@@ -65,8 +62,8 @@ pc e = e .ran .state .pc
 abbrev pub number : Ended → ℕ
 number e = e .ran .number
 
-abbrev pub timer : Ended → List ℕ
-timer e = e .ran .state .t ∷ oneIf (e .ran .state .tf) ∷ []
+abbrev pub counter : Ended → List ℕ
+counter e = e .ran .state .t ∷ oneIf (e .ran .state .tf) ∷ []
 
 -- The states that the cases start from.
 abbrev pub with : ℕ → ℕ → State
@@ -74,13 +71,13 @@ with a psw = withCore powerUp a 0 psw
 
 abbrev pub countingFrom : ℕ → State
 countingFrom t =
-    withCount powerUp (record { t = t; divider = powerUp .divider; tf = powerUp .tf; request = powerUp .request; t1 = powerUp .t1 })
+    withCount powerUp (record { t = t; divider = powerUp .divider; tf = powerUp .tf; request = powerUp .request; last = powerUp .last })
 
 abbrev pub upperBank : State
 upperBank = withFlags powerUp (powerUp .f1) true (powerUp .clock)
 
 abbrev pub inService : State → State
-inService s = withInterrupts s (record { external = s .interrupts .external; timer = s .interrupts .timer; service = true })
+inService s = withInterrupts s (record { external = s .interrupts .external; tcnti = s .interrupts .tcnti; service = true })
 
 abbrev pub latched : ℕ → State
 latched p1 =
@@ -109,8 +106,8 @@ cases =
     -- 9. Code 66: refusal 4.
     one (0x66 ∷ []) powerUp (λ e. number e ∷ []) (4 ∷ []) ∷
     -- 10. T=FF, STRT T, 31 NOPs: T=FF, TF=0. One more: T=00, TF=1.
-    record { program = holding 1024 0 (0x55 ∷ []); ram = blank; state = countingFrom 0xFF; samples = times 33 idle; look = timer; want = 0xFF ∷ 0 ∷ [] } ∷
-    record { program = holding 1024 0 (0x55 ∷ []); ram = blank; state = countingFrom 0xFF; samples = times 34 idle; look = timer; want = 0x00 ∷ 1 ∷ [] } ∷
+    record { program = holding 1024 0 (0x55 ∷ []); ram = blank; state = countingFrom 0xFF; samples = times 33 idle; look = counter; want = 0xFF ∷ 0 ∷ [] } ∷
+    record { program = holding 1024 0 (0x55 ∷ []); ram = blank; state = countingFrom 0xFF; samples = times 34 idle; look = counter; want = 0x00 ∷ 1 ∷ [] } ∷
     -- 11. PSW 08, MOV A,PSW: A=08.
     one (0xC7 ∷ []) (with 0x00 0x08) (λ e. a e ∷ []) (0x08 ∷ []) ∷
     -- 12. XCHD, A=12, cell 34: A=14, cell 32.

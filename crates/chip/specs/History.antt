@@ -1,41 +1,44 @@
 -- What the demands speak of: the cycles of a step one by one, steps one after the other, and the steps of a run.
 -- Assumes nothing.
-use Prim.Native.Nat.{ℕ, _+_, _≤_, _<_}
+use Prim.Native.Nat.{ℕ, _+_, _-_, _*_, _/_, _%_, _≤_, _<_}
 use mathlib.Core.Bool.{Bool, true, false, _||_}
 use mathlib.Core.List.{List}
+use mathlib.Core.Logic.{_⊎_}
 use mathlib.Core.Path.{_≡_}
 use lib.Dec.{eqb, leb}
-use lib.ListN.{length, getD}
+use lib.ListN.{length, getD, set, drop}
 use Rattle.isa.specs.Choice.{pick}
 use Rattle.isa.specs.Numbers.{given}
 use Rattle.isa.specs.Reading.{sized, instructionAt}
 use Rattle.isa.specs.declared.Instruction.{Instruction}
 use Rattle.machine.specs.Counting.{counted}
+use Rattle.machine.specs.Pins.{intPin, t1Pin, resetPin, isHigh, isLow}
 use Rattle.machine.specs.State.{countOf}
 use Rattle.machine.specs.declared.Count.{Count}
 use Rattle.machine.specs.declared.Counting.{Counting}
 use Rattle.machine.specs.declared.Counting.the-variants.{Timer}
 use Rattle.machine.specs.declared.State.{State}
-use Rattle.effects.specs.Pins.{high, low}
+use Rattle.effects.specs.Psw.{sp}
 use Rattle.execute.specs.Setting.{LeavesCounter}
-use Rattle.chip.specs.Admission.{standing}
-use Rattle.chip.specs.Run.{Standing, Ended, begun, gone, ended}
-use Rattle.chip.specs.Step.{externalCalls, timerCalls, accepted, called, withoutRequest, course, planOf}
+use Rattle.chip.specs.Admission.{lentNumber}
+use Rattle.chip.specs.Run.{Progress, Ended, begun, gone, ended, runOver, runOf}
+use Rattle.chip.specs.Step.{externalCalls, timerCalls, accepted, called, withoutRequest, course, planOf, remembered}
 use Rattle.chip.specs.declared.Course.{Course}
 use Rattle.chip.specs.declared.Plan.{Plan}
 
 -- ---- one cycle
--- How the counter counts in it, what the counter holds before it, the step's effects being done, T1's level in it, and whether the
--- timer interrupt is enabled in it.
+-- How the counter counts in it, what the counter holds before it, the step's effects being done, T1's level in it, whether the timer
+-- interrupt is enabled in it, and whether it is the cycle of STRT T or STRT CNT itself.
 pub record Cycle : Type 0 where
   pub counting : Counting
   pub before : Count
   pub t1 : Bool
   pub enabled : Bool
+  pub fresh : Bool
 
--- What the counter holds after it.
+-- What the counter holds after it. "The cycle of STRT T or STRT CNT itself isn't counted."
 abbrev pub afterwards : Cycle → Count
-afterwards x = counted (x .counting) (x .before) (x .t1) (x .enabled)
+afterwards x = pick (x .fresh) (remembered (x .before) (x .t1)) (counted (x .counting) (x .before) (x .t1) (x .enabled))
 
 -- T goes from FF to 00 in it.
 pub record Overflow (x : Cycle) : Type 0 where
@@ -54,14 +57,15 @@ pub record Calm (x : Cycle) : Type 0 where
   pub tf : afterwards x .tf ≡ x .before .tf
   pub request : afterwards x .request ≡ x .before .request
 
--- The cycles of a step that does c before its cycles are counted.
+-- The cycles of a step that does c before its cycles are counted. (STRT T and STRT CNT have no second.)
 unfoldable pub firstCycle : Course → ℕ → Cycle
 firstCycle c first =
     record {
       counting = c .state .counting;
       before = countOf (c .state);
-      t1 = high 26 first;
-      enabled = c .state .interrupts .timer;
+      t1 = isHigh t1Pin first;
+      enabled = c .state .interrupts .tcnti;
+      fresh = c .fresh;
     }
 
 unfoldable pub secondCycle : Course → ℕ → ℕ → Cycle
@@ -69,32 +73,33 @@ secondCycle c first second =
     record {
       counting = c .state .counting;
       before = afterwards (firstCycle c first);
-      t1 = high 26 second;
-      enabled = c .state .interrupts .timer;
+      t1 = isHigh t1Pin second;
+      enabled = c .state .interrupts .tcnti;
+      fresh = false;
     }
 
 -- ---- steps one after the other
--- The step that comes where a run stands, before its cycles are counted, and whole.
-abbrev pub courseAt : List ℕ → Standing → ℕ → ℕ → Course
+-- The step that comes next in a run, before its cycles are counted, and whole.
+abbrev pub courseAt : List ℕ → Progress → ℕ → ℕ → Course
 courseAt program k first second = course program (k .ram) (k .state) first second
 
-abbrev pub planAt : List ℕ → Standing → ℕ → ℕ → Plan
+abbrev pub planAt : List ℕ → Progress → ℕ → ℕ → Plan
 planAt program k first second = planOf program (k .ram) (k .state) first second
 
 -- Where it leads.
-abbrev pub after : List ℕ → Standing → ℕ → ℕ → Standing
+abbrev pub after : List ℕ → Progress → ℕ → ℕ → Progress
 after program k first second = gone k (planAt program k first second)
 
 -- A history: accepted steps, one after the other, from a RAM and a state.
-pub data Steps (program ram : List ℕ) (s : State) : Standing → Type 0 where
+pub data Steps (program ram : List ℕ) (s : State) : Progress → Type 0 where
   none : Steps program ram s (begun ram s)
   more :
-      {k : Standing} (first second : ℕ) → Steps program ram s k → planAt program k first second .number ≡ 0
+      {k : Progress} (first second : ℕ) → Steps program ram s k → planAt program k first second .number ≡ 0
       → Steps program ram s (after program k first second)
 
 -- Cycle i of a history, from 1 to its number of cycles.
-unfoldable pub cycle : {program ram : List ℕ} {s : State} {k : Standing} → Steps program ram s k → ℕ → Cycle
-cycle {s = s} none i = record { counting = s .counting; before = countOf s; t1 = false; enabled = false }
+unfoldable pub cycle : {program ram : List ℕ} {s : State} {k : Progress} → Steps program ram s k → ℕ → Cycle
+cycle {s = s} none i = record { counting = s .counting; before = countOf s; t1 = false; enabled = false; fresh = false }
 cycle {program} (more {k = k} first second h a) i =
     pick (leb i (k .cycles)) (cycle h i)
     (pick (eqb i (k .cycles + 1)) (firstCycle (courseAt program k first second) first)
@@ -103,13 +108,13 @@ cycle {program} (more {k = k} first second h a) i =
 -- ---- what the owner asks of each step of a history, beside that it is accepted
 -- "No reset is seen and none of STRT T, STRT CNT, STOP TCNT, MOV T,A is carried out": an interrupt call carries out none.
 pub record Undisturbed (program : List ℕ) (s : State) (first : ℕ) : Type 0 where
-  pub no-reset : low 27 first ≡ false
+  pub no-reset : isLow resetPin first ≡ false
   pub none-of-four :
       externalCalls s first ≡ false → timerCalls s ≡ false → (i : Instruction) (n : ℕ)
       → instructionAt program (s .pc) ≡ given (sized i n) → LeavesCounter i
 
 -- Each step of the history is so.
-abbrev pub AllUndisturbed : {program ram : List ℕ} {s : State} {k : Standing} → Steps program ram s k → Type 0
+abbrev pub AllUndisturbed : {program ram : List ℕ} {s : State} {k : Progress} → Steps program ram s k → Type 0
 AllUndisturbed none = Unit {0}
 AllUndisturbed {program} (more {k = k} first second h a) = AllUndisturbed h × Undisturbed program (k .state) first
 
@@ -119,18 +124,22 @@ pub record JustStarted (c : ℕ) (s : State) : Type 0 where
   pub t : s .t ≡ c
   pub divider : s .divider ≡ 0
 
--- The step is the call to location 7: PC is 7, the request is cleared, the interrupt is in service, and it takes two cycles. What it
--- pushes is in `call`.
-pub record CallTo7 (program : List ℕ) (k : Standing) (first second : ℕ) : Type 0 where
+-- The step is the call to location 7: PC is 7, the request is cleared, the interrupt is in service, it takes two cycles, and "RAM 8 + 2 x SP
+-- takes PC bits 0-7, the next byte PC bits 8-11 low and PSW bits 4-7 high".
+pub record CallTo7 (program : List ℕ) (k : Progress) (first second : ℕ) : Type 0 where
   pub call : courseAt program k first second ≡ accepted (called (withoutRequest (k .state)) 7) 2
   pub pc : after program k first second .state .pc ≡ 7
   pub request : after program k first second .state .request ≡ false
   pub service : after program k first second .state .interrupts .service ≡ true
   pub cycles : planAt program k first second .cycles ≡ 2
+  pub memory :
+      after program k first second .ram
+      ≡ set (set (k .ram) (8 + sp (k .state .psw) * 2) (k .state .pc % 256)) (8 + sp (k .state .psw) * 2 + 1)
+      (k .state .pc / 256 % 16 + k .state .psw / 16 * 16)
 
 -- ---- histories and what they begin with
 pub record History (program ram : List ℕ) (s : State) : Type 0 where
-  pub end : Standing
+  pub end : Progress
   pub steps : Steps program ram s end
 
 module _ {program ram : List ℕ} {s : State} where
@@ -156,32 +165,88 @@ module _ {program ram : List ℕ} {s : State} where
     pub ends : i ≤ before .end .cycles + planAt program (before .end) first second .cycles
     pub begins : Begins (longer before first second fine) q
 
+  -- The history up to the end of that step.
+  abbrev pub upTo : {i : ℕ} {q : History program ram s} → StepWith i q → History program ram s
+  upTo o = longer (o .before) (o .first) (o .second) (o .fine)
+
 -- ---- the history of a run
--- Each step has read the samples of its cycle and of the next, and both are there.
-abbrev pub Reads : {program ram : List ℕ} {s : State} {k : Standing} → List ℕ → Steps program ram s k → Type 0
+-- The two samples that the next step is given.
+abbrev pub firstOf : List ℕ → Progress → ℕ
+firstOf samples k = getD samples (k .used) 0
+
+abbrev pub secondOf : List ℕ → Progress → ℕ
+secondOf samples k = getD samples (k .used + 1) 0
+
+-- Each step was given the run's samples, and both were there.
+abbrev pub Reads : {program ram : List ℕ} {s : State} {k : Progress} → List ℕ → Steps program ram s k → Type 0
 Reads samples none = Unit {0}
 Reads samples (more {k = k} first second h a) =
-    Reads samples h × (first ≡ getD samples (k .cycles) 0) × (second ≡ getD samples (k .cycles + 1) 0)
-    × (k .cycles + 2 ≤ length samples)
+    Reads samples h × (first ≡ firstOf samples k) × (second ≡ secondOf samples k) × (k .used + 2 ≤ length samples)
 
 -- What a run over samples did, refused or not: it ended where its history leads, one sample used a cycle. There fewer than two samples
--- are left, or the next step is refused with the run's number.
+-- are left; or two are left, and the next step is refused with the run's number.
 pub record HistoryOf (program ram : List ℕ) (s : State) (samples : List ℕ) (e : Ended) : Type 0 where
-  pub end : Standing
+  pub end : Progress
   pub steps : Steps program ram s end
   pub reads : Reads samples steps
   pub is : e ≡ ended end (e .ran .number)
   pub used : end .used ≡ end .cycles
-  pub enough : end .cycles ≤ length samples
-  pub short : e .ran .number ≡ 0 → length samples ≤ end .cycles + 1
-  pub stopped :
-      (e .ran .number ≡ 0 → ⊥)
-      → planAt program end (getD samples (end .cycles) 0) (getD samples (end .cycles + 1) 0) .number ≡ e .ran .number
+  pub enough : end .used ≤ length samples
+  pub short : e .ran .number ≡ 0 → length samples ≤ end .used + 1
+  pub two : (e .ran .number ≡ 0 → ⊥) → end .used + 2 ≤ length samples
+  pub stopped : (e .ran .number ≡ 0 → ⊥) → planAt program end (firstOf samples end) (secondOf samples end) .number ≡ e .ran .number
 
 -- The first demand, of a run. Refused by 1, 2 or 3 it does nothing; else it is accepted steps and then, where it is refused, a step that
 -- is refused with the run's number: "steps done before a refusal stand".
 pub data RunAnswered (program ram : List ℕ) (s : State) (samples : List ℕ) (e : Ended) : Type 0 where
   nothing-done :
-      (standing (length program) (length ram) s ≡ 0 → ⊥) → e ≡ ended (begun ram s) (standing (length program) (length ram) s)
+      (lentNumber (length program) (length ram) s ≡ 0 → ⊥) → e ≡ ended (begun ram s) (lentNumber (length program) (length ram) s)
       → RunAnswered program ram s samples e
-  steps-done : standing (length program) (length ram) s ≡ 0 → HistoryOf program ram s samples e → RunAnswered program ram s samples e
+  steps-done : lentNumber (length program) (length ram) s ≡ 0 → HistoryOf program ram s samples e → RunAnswered program ram s samples e
+
+-- ---- the third demand
+-- The cycle of the first overflow, the counter holding c just after STRT T.
+abbrev pub overflowCycle : ℕ → ℕ
+overflowCycle c = 32 * (256 - c)
+
+-- All that the third demand's last sentence asks of a run over samples from just after STRT T. `part` is what the run does up to the end of
+-- some step, and the overflow lies in it.
+pub record Asked (program ram : List ℕ) (s : State) (samples : List ℕ) (c : ℕ) : Type 0 where
+  pub part : History program ram s
+  pub reads : Reads samples (part .steps)
+  -- "While no step is refused, no reset is seen and none of STRT T, STRT CNT, STOP TCNT, MOV T,A is carried out"
+  pub undisturbed : AllUndisturbed (part .steps)
+  pub overflow : StepWith (overflowCycle c) part
+  -- "If the timer interrupt is enabled then,
+  pub on : cycle (part .steps) (overflowCycle c) .enabled ≡ true
+  -- all this holds through the next step too,
+  pub fine : planAt program (upTo overflow .end) (firstOf samples (upTo overflow .end)) (secondOf samples (upTo overflow .end)) .number ≡ 0
+  pub calm : Undisturbed program (upTo overflow .end .state) (firstOf samples (upTo overflow .end))
+  -- and at that step's start no interrupt is in service,
+  pub idle : upTo overflow .end .state .interrupts .service ≡ false
+  -- the external one is disabled or its pin high,
+  pub off :
+      (upTo overflow .end .state .interrupts .external ≡ false) ⊎ (isLow intPin (firstOf samples (upTo overflow .end)) ≡ false)
+  -- and two pin samples remain"
+  pub two : upTo overflow .end .used + 2 ≤ length samples
+
+module _ {program ram : List ℕ} {s : State} {samples : List ℕ} {c : ℕ} (q : Asked program ram s samples c) where
+  -- The run up to the end of the step with the overflow, and with the next step.
+  abbrev pub until : History program ram s
+  until = upTo (q .overflow)
+
+  abbrev pub next : History program ram s
+  next = longer until (firstOf samples (until .end)) (secondOf samples (until .end)) (q .fine)
+
+  -- Then the run goes through the next step, which is the call to location 7, "complete at most 3 cycles after the overflow: from c = 0,
+  -- within 8,195".
+  pub record Called : Type 0 where
+    pub through : runOf program ram s samples ≡ runOver program (drop (next .end .used) samples) (next .end)
+    pub calls : CallTo7 program (until .end) (firstOf samples (until .end)) (secondOf samples (until .end))
+    pub soon : next .end .cycles ≤ overflowCycle c + 3
+    pub within-8195 : c ≡ 0 → next .end .cycles ≤ 8195
+
+-- A run that meets all of it, and is answered so.
+pub record Met (program ram : List ℕ) (s : State) (samples : List ℕ) (c : ℕ) : Type 0 where
+  pub asks : Asked program ram s samples c
+  pub called : Called asks

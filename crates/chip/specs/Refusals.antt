@@ -7,24 +7,31 @@ use mathlib.Core.Path.{_≡_}
 use lib.Dec.{eqb}
 use lib.ListN.{length}
 use Rattle.isa.specs.Numbers.{given}
+use Rattle.isa.specs.Pages.{movpAddress, jmppAddress, movp3Address}
 use Rattle.isa.specs.Reading.{sized, nextPc, lacks, byteAt, instructionAt}
 use Rattle.isa.specs.Sheet.{entryOf}
 use Rattle.isa.specs.declared.Instruction.{Instruction}
-use Rattle.machine.specs.State.{permitted, withPc}
+use Rattle.isa.specs.declared.Instruction.the-variants.{Jmpp, Movp, Movp3}
+use Rattle.machine.specs.Pins.{resetPin, isLow}
+use Rattle.machine.specs.State.{permitted}
 use Rattle.machine.specs.declared.State.{State}
-use Rattle.effects.specs.Pins.{low}
 use Rattle.effects.specs.declared.Event.the-variants.{Quiet}
-use Rattle.execute.specs.Execute.{executed}
 use Rattle.chip.specs.Admission.{programAllowed, ramAllowed, sampleAllowed, admission}
-use Rattle.chip.specs.Step.{externalCalls, timerCalls, pcAfter}
+use Rattle.chip.specs.Step.{externalCalls, timerCalls}
 use Rattle.chip.specs.declared.Outcome.{Outcome}
 
 -- The step comes to fetch: none of 1, 2, 3, 6, no reset and no interrupt call.
 pub record Fetches (program ram : List ℕ) (s : State) (first second : ℕ) : Type 0 where
   pub admitted : admission (length program) (length ram) s first second ≡ 0
-  pub running : low 27 first ≡ false
+  pub running : isLow resetPin first ≡ false
   pub no-external : externalCalls s first ≡ false
   pub no-timer : timerCalls s ≡ false
+
+-- MOVP, MOVP3 and JMPP, at the address base, take a table byte that A points to: where it stands.
+pub data TableByte (base a : ℕ) : Instruction → ℕ → Type 0 where
+  of-movp : TableByte base a Movp (movpAddress base a)
+  of-movp3 : TableByte base a Movp3 (movp3Address base a)
+  of-jmpp : TableByte base a Jmpp (jmppAddress base a)
 
 -- The step gives the number.
 pub data Gives (program ram : List ℕ) (s : State) (first second : ℕ) : ℕ → Type 0 where
@@ -42,10 +49,9 @@ pub data Gives (program ram : List ℕ) (s : State) (first second : ℕ) : ℕ �
   no-second-byte :
       Fetches program ram s first second → lacks program (s .pc) ≡ false → eqb (entryOf (byteAt program (s .pc)) .bytes) 0 ≡ false
       → eqb (entryOf (byteAt program (s .pc)) .bytes) 1 ≡ false → lacks program (nextPc (s .pc)) ≡ true → Gives program ram s first second 5
-  -- MOVP, MOVP3 and JMPP
   no-table-byte :
-      (i : Instruction) (n : ℕ) → Fetches program ram s first second → instructionAt program (s .pc) ≡ given (sized i n)
-      → executed i program ram (withPc s (pcAfter n (s .pc))) (s .pc) first second .number ≡ 5 → Gives program ram s first second 5
+      (i : Instruction) (n at : ℕ) → Fetches program ram s first second → instructionAt program (s .pc) ≡ given (sized i n)
+      → TableByte (s .pc) (s .a) i at → lacks program at ≡ true → Gives program ram s first second 5
 
 -- The first demand: every step is answered. It is accepted and takes one cycle or two; or it carries a number of the table, spends no
 -- cycle, gives no event, and returns the state and RAM exactly as they came.

@@ -11,15 +11,13 @@ use Rattle.isa.specs.Numbers.{Answer, given, refused}
 use Rattle.isa.specs.Reading.{Sized, sized, nextPc, byteAt, instructionAt}
 use Rattle.isa.specs.Sheet.{entryOf, makeOf}
 use Rattle.machine.specs.Counting.{counted}
+use Rattle.machine.specs.Pins.{intPin, t1Pin, resetPin, isHigh, isLow}
 use Rattle.machine.specs.State.{countOf, withPc, withCount, withInterrupts}
 use Rattle.machine.specs.declared.Count.{Count}
 use Rattle.machine.specs.declared.Counting.{Counting}
 use Rattle.machine.specs.declared.Counting.the-variants.{Stopped}
-use Rattle.machine.specs.declared.Interrupts.{Interrupts}
-use Rattle.machine.specs.declared.Ports.{Ports}
 use Rattle.machine.specs.declared.State.{State}
 use Rattle.effects.specs.Moves.{quiet}
-use Rattle.effects.specs.Pins.{high, low}
 use Rattle.effects.specs.declared.Effect.{Effect}
 use Rattle.effects.specs.declared.Event.the-variants.{Quiet}
 use Rattle.effects.specs.declared.Write.{Write}
@@ -53,31 +51,31 @@ resetState s =
       divider = s .divider;
       tf = false;
       request = false;
-      t1 = s .t1;
+      last = s .last;
       f1 = false;
       dbf = false;
       clock = false;
-      interrupts = record { external = false; timer = false; service = false };
+      interrupts = record { external = false; tcnti = false; service = false };
       ports = record { p1 = 0xFF; p2 = 0xFF; bus = s .ports .bus; driven = false };
     }
 
 -- 2. "if none is in service: external interrupt enabled and INT low in the first sample calls location 3; else timer interrupt enabled
 -- and a request stored clears the request and calls 7."
 abbrev pub externalCalls : State → ℕ → Bool
-externalCalls s first = not (s .interrupts .service) && s .interrupts .external && low 24 first
+externalCalls s first = not (s .interrupts .service) && s .interrupts .external && isLow intPin first
 
 abbrev pub timerCalls : State → Bool
-timerCalls s = not (s .interrupts .service) && s .interrupts .timer && s .request
+timerCalls s = not (s .interrupts .service) && s .interrupts .tcnti && s .request
 
--- "The call pushes like CALL, sets in-service, leaves DBF, takes 2 cycles."
+-- "The call pushes like CALL, sets in-service, leaves DBF, takes 2 cycles." Bit 11 of PC is 0 after it, the vector being 3 or 7.
 unfoldable pub called : State → ℕ → Effect
 called s vector =
     pushed
-    (withInterrupts s (record { external = s .interrupts .external; timer = s .interrupts .timer; service = true }))
+    (withInterrupts s (record { external = s .interrupts .external; tcnti = s .interrupts .tcnti; service = true }))
     vector
 
 unfoldable pub withoutRequest : State → State
-withoutRequest s = withCount s (record { t = s .t; divider = s .divider; tf = s .tf; request = false; t1 = s .t1 })
+withoutRequest s = withCount s (record { t = s .t; divider = s .divider; tf = s .tf; request = false; last = s .last })
 
 -- The PC after an instruction of n bytes, one or two.
 abbrev pub pcAfter : ℕ → ℕ → ℕ
@@ -101,7 +99,7 @@ unfoldable pub course : List ℕ → List ℕ → State → ℕ → ℕ → Cour
 course program ram s first second =
     pick (not (eqb (admission (length program) (length ram) s first second) 0))
     (declined (admission (length program) (length ram) s first second) s)
-    (pick (low 27 first) (accepted (quiet (resetState s)) 1)
+    (pick (isLow resetPin first) (accepted (quiet (resetState s)) 1)
     (pick (externalCalls s first) (accepted (called s 3) 2)
     (pick (timerCalls s) (accepted (called (withoutRequest s) 7) 2)
     (carried program ram s first second))))
@@ -109,18 +107,18 @@ course program ram s first second =
 -- 4. "Then the cycles of the step, an interrupt call's two as well, are counted, one at a time, after its effects. The cycle of STRT T or
 -- STRT CNT itself isn't counted." "T1 is remembered every cycle, reset and STRT CNT too."
 abbrev pub remembered : Count → Bool → Count
-remembered c t1 = record { t = c .t; divider = c .divider; tf = c .tf; request = c .request; t1 = t1 }
+remembered c t1 = record { t = c .t; divider = c .divider; tf = c .tf; request = c .request; last = t1 }
 
 unfoldable pub ticked : Counting → Count → ℕ → Bool → Bool → ℕ → ℕ → Count
 ticked counting c cycles fresh enabled first second =
-    pick fresh (remembered c (high 26 first))
+    pick fresh (remembered c (isHigh t1Pin first))
     (pick (eqb cycles 2)
-    (counted counting (counted counting c (high 26 first) enabled) (high 26 second) enabled)
-    (counted counting c (high 26 first) enabled))
+    (counted counting (counted counting c (isHigh t1Pin first) enabled) (isHigh t1Pin second) enabled)
+    (counted counting c (isHigh t1Pin first) enabled))
 
 unfoldable pub settled : State → ℕ → Bool → ℕ → ℕ → State
 settled s cycles fresh first second =
-    withCount s (ticked (s .counting) (countOf s) cycles fresh (s .interrupts .timer) first second)
+    withCount s (ticked (s .counting) (countOf s) cycles fresh (s .interrupts .tcnti) first second)
 
 -- The whole step, and what it writes to RAM. "A refused step returns the number, the state it got, no event and 0 cycles; RAM is
 -- unchanged."

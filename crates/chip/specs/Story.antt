@@ -2,7 +2,7 @@
 -- Assumes nothing.
 use Prim.Native.Nat.{ℕ}
 use mathlib.Core.Bool.{Bool}
-use mathlib.Core.List.{List, [], _∷_, _++_}
+use mathlib.Core.List.{List, _∷_}
 use Rattle.machine.specs.State.{powerUp}
 use Rattle.chip.specs.Cases.{times, idle, blank}
 use Rattle.chip.specs.Run.{Ended, runOf}

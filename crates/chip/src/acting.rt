@@ -8,10 +8,11 @@ use machine::Counting;
 use machine::Interrupts;
 use machine::Ports;
 use machine::State;
+use machine::pins;
 ghost use mathlib.Core.Path.{_≡_};
 ghost use lib.ListN.{length};
 ghost use Rattle.isa.specs.Table.{packedRows};
-ghost use Rattle.chip.specs.Admission.{standing};
+ghost use Rattle.chip.specs.Admission.{lentNumber};
 ghost use Rattle.chip.specs.Step.{declined, accepted, resetState, called, withoutRequest, done, carried, course};
 
 fn decline(number: u8, s: State) -> Course
@@ -56,13 +57,13 @@ fn reset(s: State) -> State
         divider: s.divider,
         tf: false,
         request: false,
-        t1: s.t1,
+        last: s.last,
         f1: false,
         dbf: false,
         clock: false,
         interrupts: Interrupts {
             external: false,
-            timer: false,
+            tcnti: false,
             service: false,
         },
         ports: Ports {
@@ -80,7 +81,7 @@ fn call(s: State, vector: u16) -> Effect
     let i = s.interrupts;
     let t = s.with_interrupts(Interrupts {
         external: i.external,
-        timer: i.timer,
+        tcnti: i.tcnti,
         service: true,
     });
     flow::stack::push(t, vector)
@@ -94,7 +95,7 @@ fn without_request(s: State) -> State
         divider: s.divider,
         tf: s.tf,
         request: false,
-        t1: s.t1,
+        last: s.last,
     })
 }
 
@@ -136,23 +137,23 @@ pub fn course_of(
     second: u32,
 ) -> Course
     requires { ⌜ now table ≡ packedRows ⌝ }
-    requires { ⌜ standing (length (now program)) (length (now ram)) s ≡ 0 ⌝ }
+    requires { ⌜ lentNumber (length (now program)) (length (now ram)) s ≡ 0 ⌝ }
     ensures { λ r. ⌜ r ≡ course (now (program .entry)) (now (ram .entry)) s first second ⌝ }
 {
     let number = crate::admission::sample_number(first, second);
     if number != 0 {
         return decline(number, s);
     }
-    let resets = first / 0x800_0000 % 2 == 0;
+    let resets = first / pins::RESET % 2 == 0;
     if resets {
         return accept(effects::quiet_effect(reset(s)), 1);
     }
     let i = s.interrupts;
-    let external = !i.service & i.external & (first / 0x100_0000 % 2 == 0);
+    let external = !i.service & i.external & (first / pins::INT % 2 == 0);
     if external {
         return accept(call(s, State::EXTERNAL_VECTOR), 2);
     }
-    let timer = !i.service & i.timer & s.request;
+    let timer = !i.service & i.tcnti & s.request;
     if timer {
         return accept(call(without_request(s), State::TIMER_VECTOR), 2);
     }

@@ -1,18 +1,21 @@
 // What is looked at before a step does anything.
 use isa::Refusal;
 use machine::State;
+use machine::pins;
 ghost use mathlib.Core.Path.{_≡_};
-ghost use Rattle.chip.specs.Admission.{standing, sampleNumber};
+ghost use Rattle.chip.specs.Admission.{lentNumber, sampleNumber};
 
 // 1, 2 or 3; 0 if none.
-pub fn standing_number(program: usize, ram: usize, s: State) -> u8
-    ensures { λ n. ⌜ n ≡ standing program ram s ⌝ }
+pub fn lent_number(program: usize, ram: usize, s: State) -> u8
+    ensures { λ n. ⌜ n ≡ lentNumber program ram s ⌝ }
 {
-    let long = (program == 1024) | (program == 2048) | (program == 4096);
+    let long = (program == State::PROGRAM_8048)
+        | (program == State::PROGRAM_8049)
+        | (program == State::PROGRAM_8050);
     if !long {
         return isa::number(Refusal::ProgramLength);
     }
-    let wide = (ram == 64) | (ram == 128) | (ram == 256);
+    let wide = (ram == State::RAM_8048) | (ram == State::RAM_8049) | (ram == State::RAM_8050);
     if !wide {
         return isa::number(Refusal::RamLength);
     }
@@ -27,7 +30,7 @@ pub fn standing_number(program: usize, ram: usize, s: State) -> u8
 pub fn sample_number(first: u32, second: u32) -> u8
     ensures { λ n. ⌜ n ≡ sampleNumber first second ⌝ }
 {
-    let plain = (first < 0x1000_0000) & (second < 0x1000_0000);
+    let plain = (first < pins::LIMIT) & (second < pins::LIMIT);
     if !plain {
         return isa::number(Refusal::SampleBits);
     }

@@ -5,10 +5,11 @@ use machine::Count;
 use machine::Counting;
 use machine::State;
 use machine::cycle::count_cycle;
+use machine::pins;
 ghost use mathlib.Core.Path.{_≡_};
 ghost use lib.ListN.{length};
 ghost use Rattle.isa.specs.Table.{packedRows};
-ghost use Rattle.chip.specs.Admission.{standing};
+ghost use Rattle.chip.specs.Admission.{lentNumber};
 ghost use Rattle.chip.specs.Run.{begun, runOver, runOf};
 ghost use Rattle.chip.specs.Step.{planOf, stepOf, ramAfter, settled, ticked};
 
@@ -77,19 +78,19 @@ fn tick(
 ) -> Count
     ensures { λ r. ⌜ r ≡ ticked counting c cycles fresh enabled first second ⌝ }
 {
-    let t1 = first / 0x400_0000 % 2 == 1;
+    let t1 = first / pins::T1 % 2 == 1;
     if fresh {
         return Count {
             t: c.t,
             divider: c.divider,
             tf: c.tf,
             request: c.request,
-            t1,
+            last: t1,
         };
     }
     let d = count_cycle(counting, c, t1, enabled);
     if cycles == 2 {
-        return count_cycle(counting, d, second / 0x400_0000 % 2 == 1, enabled);
+        return count_cycle(counting, d, second / pins::T1 % 2 == 1, enabled);
     }
     d
 }
@@ -99,7 +100,7 @@ fn settle(s: State, cycles: u8, fresh: bool, first: u32, second: u32) -> State
 {
     let counting = s.counting;
     let i = s.interrupts;
-    s.with_count(tick(counting, s.count(), cycles, fresh, i.timer, first, second))
+    s.with_count(tick(counting, s.count(), cycles, fresh, i.tcnti, first, second))
 }
 
 // The whole step, without its write to RAM. 1, 2 and 3 are not given: `step` asks before, and `run` once, since an accepted step leaves it
@@ -113,7 +114,7 @@ fn plan_step(
     second: u32,
 ) -> Plan
     requires { ⌜ now table ≡ packedRows ⌝ }
-    requires { ⌜ standing (length (now program)) (length (now ram)) s ≡ 0 ⌝ }
+    requires { ⌜ lentNumber (length (now program)) (length (now ram)) s ≡ 0 ⌝ }
     ensures { λ r. ⌜ r ≡ planOf (now (program .entry)) (now (ram .entry)) s first second ⌝ }
 {
     let c = acting::course_of(table, program, ram, s, first, second);
@@ -147,7 +148,7 @@ fn do_step(
     second: u32,
 ) -> Outcome
     requires { ⌜ now table ≡ packedRows ⌝ }
-    requires { ⌜ standing (length (now program)) (length (now ram)) s ≡ 0 ⌝ }
+    requires { ⌜ lentNumber (length (now program)) (length (now ram)) s ≡ 0 ⌝ }
     ensures answer { λ r. ⌜ r ≡ stepOf (now (program .entry)) (now (ram .entry)) s first second ⌝ }
     ensures memory { λ r. ⌜ now (ram .exit) ≡ ramAfter (now (program .entry)) (now (ram .entry)) s first second ⌝ }
 {
@@ -169,7 +170,7 @@ pub fn step(program: &[u8], ram: &mut [u8], state: State, first: u32, second: u3
     ensures answer { λ r. ⌜ r ≡ stepOf (now (program .entry)) (now (ram .entry)) state first second ⌝ }
     ensures memory { λ r. ⌜ now (ram .exit) ≡ ramAfter (now (program .entry)) (now (ram .entry)) state first second ⌝ }
 {
-    let refused = admission::standing_number(program.len(), ram.len(), state);
+    let refused = admission::lent_number(program.len(), ram.len(), state);
     if refused != 0 {
         return Outcome {
             number: refused,
@@ -185,9 +186,9 @@ pub fn step(program: &[u8], ram: &mut [u8], state: State, first: u32, second: u3
 // Steps while two samples remain, or until a refusal. Each machine cycle uses one sample.
 fn run_on(table: &[u16; 256], program: &[u8], ram: &mut [u8], start: State, samples: &[u32]) -> Ran
     requires { ⌜ now table ≡ packedRows ⌝ }
-    requires { ⌜ standing (length (now program)) (length (now ram)) start ≡ 0 ⌝ }
-    ensures answer { λ r. ⌜ r ≡ runOver (now (program .entry)) (now (samples .entry)) 0 (begun (now (ram .entry)) start) .ran ⌝ }
-    ensures memory { λ r. ⌜ now (ram .exit) ≡ runOver (now (program .entry)) (now (samples .entry)) 0 (begun (now (ram .entry)) start) .ram ⌝ }
+    requires { ⌜ lentNumber (length (now program)) (length (now ram)) start ≡ 0 ⌝ }
+    ensures answer { λ r. ⌜ r ≡ runOver (now (program .entry)) (now (samples .entry)) (begun (now (ram .entry)) start) .ran ⌝ }
+    ensures memory { λ r. ⌜ now (ram .exit) ≡ runOver (now (program .entry)) (now (samples .entry)) (begun (now (ram .entry)) start) .ram ⌝ }
 {
     let mut state = start;
     let mut event = Event::Quiet;
@@ -222,7 +223,7 @@ pub fn run(program: &[u8], ram: &mut [u8], state: State, samples: &[u32]) -> Ran
     ensures answer { λ r. ⌜ r ≡ runOf (now (program .entry)) (now (ram .entry)) state (now (samples .entry)) .ran ⌝ }
     ensures memory { λ r. ⌜ now (ram .exit) ≡ runOf (now (program .entry)) (now (ram .entry)) state (now (samples .entry)) .ram ⌝ }
 {
-    let number = admission::standing_number(program.len(), ram.len(), state);
+    let number = admission::lent_number(program.len(), ram.len(), state);
     if number != 0 {
         return Ran {
             number,

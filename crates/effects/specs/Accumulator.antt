@@ -1,7 +1,7 @@
 -- What is done to A, and to C and AC.
 -- Assumes nothing.
 use Prim.Native.Nat.{ℕ, _+_, _-_, _*_, _/_, _%_}
-use mathlib.Core.Bool.{Bool, _||_}
+use mathlib.Core.Bool.{_||_}
 use lib.Bits.{bitAnd, bitOr, bitXor}
 use lib.Dec.{ltb, leb, eqb}
 use Rattle.isa.specs.Choice.{pick}
@@ -40,7 +40,7 @@ highAdjusted s v = pick (leb 0xA0 v || eqb (bitC (s .psw)) 1) (withAC s ((v + 0x
 abbrev pub decimalAdjusted : State → State
 decimalAdjusted s = highAdjusted s (lowAdjusted (s .a) (s .psw))
 
--- "INC and DEC wrap and set no flag."
+-- "INC and DEC wrap and set no flag." Less 1 is + 255 modulo 256, also from 0.
 abbrev pub changed : Unary → State → State
 changed CplA s = withA s (255 - s .a)
 changed ClrA s = withA s 0

@@ -1,6 +1,6 @@
 pub mod Accumulator
+pub mod Events
 pub mod Memory
 pub mod Moves
-pub mod Pins
 pub mod Ports
 pub mod Psw

@@ -2,21 +2,20 @@
 -- Assumes nothing.
 use Prim.Native.Nat.{ℕ, _+_, _*_, _%_}
 use mathlib.Core.List.{List}
-use lib.ListN.{length, getD}
+use lib.ListN.{length}
+use Rattle.isa.specs.Reading.{byteAt}
 use Rattle.isa.specs.declared.Cell.{Cell}
 use Rattle.isa.specs.declared.Cell.the-variants.{Register, Indirect}
 use Rattle.isa.specs.declared.Source.{Source}
 use Rattle.isa.specs.declared.Source.the-variants.{FromRegister, FromIndirect, Immediate}
 use Rattle.effects.specs.Psw.{bitBs}
 
-abbrev pub cellAt : List ℕ → ℕ → ℕ
-cellAt ram i = getD ram i 0
-
+-- (A code holds r from 0 to 7; % 8 makes the definition total.)
 abbrev pub registerAt : ℕ → ℕ → ℕ
 registerAt psw r = bitBs psw * 24 + r % 8
 
 abbrev pub indirectAt : List ℕ → ℕ → ℕ → ℕ
-indirectAt ram psw r = cellAt ram (registerAt psw r) % length ram
+indirectAt ram psw r = byteAt ram (registerAt psw r) % length ram
 
 -- Where Rr and @Rr stand in RAM.
 abbrev pub placeOf : Cell → List ℕ → ℕ → ℕ
@@ -25,6 +24,6 @@ placeOf (Indirect r) ram psw = indirectAt ram psw r
 
 -- What Rr, @Rr and #data give.
 abbrev pub sourceOf : Source → List ℕ → ℕ → ℕ
-sourceOf (FromRegister r) ram psw = cellAt ram (registerAt psw r)
-sourceOf (FromIndirect r) ram psw = cellAt ram (indirectAt ram psw r)
+sourceOf (FromRegister r) ram psw = byteAt ram (registerAt psw r)
+sourceOf (FromIndirect r) ram psw = byteAt ram (indirectAt ram psw r)
 sourceOf (Immediate d) ram psw = d

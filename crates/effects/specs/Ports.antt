@@ -5,20 +5,20 @@ use mathlib.Core.Bool.{true}
 use lib.Bits.{bitAnd, bitOr}
 use lib.Dec.{eqb}
 use Rattle.isa.specs.Choice.{pick}
-use Rattle.isa.specs.declared.Digit.{Digit}
-use Rattle.isa.specs.declared.Digit.the-variants.{MovdRead, MovdWrite, Orld, Anld}
+use Rattle.isa.specs.declared.DigitMove.{DigitMove}
+use Rattle.isa.specs.declared.DigitMove.the-variants.{MovdRead, MovdWrite, Orld, Anld}
 use Rattle.isa.specs.declared.Join.{Join}
 use Rattle.isa.specs.declared.Join.the-variants.{AnlLatch, OrlLatch}
 use Rattle.isa.specs.declared.Latch.{Latch}
 use Rattle.isa.specs.declared.Latch.the-variants.{Bus, Port}
+use Rattle.machine.specs.Pins.{busPins, p1Pins, p2Pins}
 use Rattle.machine.specs.State.{withA, withPorts}
-use Rattle.machine.specs.declared.Ports.{Ports}
 use Rattle.machine.specs.declared.State.{State}
 use Rattle.effects.specs.Moves.{signalled}
-use Rattle.effects.specs.Pins.{busPins, p1Pins, p2Pins}
 use Rattle.effects.specs.declared.Effect.{Effect}
 use Rattle.effects.specs.declared.Event.the-variants.{ExpanderMove}
 
+-- A port is P1 or P2, and a code holds no other: what is not 1 is P2, here and below.
 -- "IN reads latch AND pins. INS reads BUS pins."
 abbrev pub input : Latch → State → ℕ → State
 input Bus s second = withA s (busPins second)
@@ -43,8 +43,8 @@ joined AnlLatch x d = bitAnd x d
 joined OrlLatch x d = bitOr x d
 
 -- "MOVD, ORLD, ANLD give an event with operation, port 4-7 and A's low digit as it was before; MOVD A,Pp puts P2 pins 0-3 in A, high
--- digit 0."
-abbrev pub expanderMoved : Digit → ℕ → State → ℕ → Effect
+-- digit 0." "On our boards the P2 latch stays."
+abbrev pub expanderMoved : DigitMove → ℕ → State → ℕ → Effect
 expanderMoved MovdRead p s second = signalled (withA s (p2Pins second % 16)) (ExpanderMove MovdRead p (s .a % 16))
 expanderMoved MovdWrite p s second = signalled s (ExpanderMove MovdWrite p (s .a % 16))
 expanderMoved Orld p s second = signalled s (ExpanderMove Orld p (s .a % 16))

@@ -1,5 +1,5 @@
 // What an instruction answers, and what is done to registers, RAM, A and ports.
-use isa::Digit;
+use isa::DigitMove;
 use isa::Refusal;
 use machine::State;
 ghost use mathlib.Core.Path.{_≡_};
@@ -18,7 +18,7 @@ pub enum Event {
     // MOVX @Rr,A: the address and the data
     ExternalWrite(u8, u8),
     // MOVD, ORLD, ANLD: the operation, the port and A's low digit as it was before
-    ExpanderMove(Digit, u8, u8),
+    ExpanderMove(DigitMove, u8, u8),
 }
 
 // What is to be written to RAM.

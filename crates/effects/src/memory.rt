@@ -3,11 +3,11 @@ use isa::Cell;
 use isa::Source;
 ghost use mathlib.Core.Path.{_≡_};
 ghost use Prim.Native.Nat.{_%_};
-ghost use lib.ListN.{length};
-ghost use Rattle.effects.specs.Memory.{cellAt, registerAt, indirectAt, placeOf, sourceOf};
+ghost use Rattle.isa.specs.Reading.{byteAt};
+ghost use Rattle.effects.specs.Memory.{registerAt, indirectAt, placeOf, sourceOf};
 
 pub fn cell(ram: &[u8], i: usize) -> u8
-    ensures { λ r. ⌜ r ≡ cellAt (now (ram .entry)) i ⌝ }
+    ensures { λ r. ⌜ r ≡ byteAt (now (ram .entry)) i ⌝ }
 {
     if i < ram.len() { ram[i] } else { 0 }
 }

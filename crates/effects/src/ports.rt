@@ -1,11 +1,12 @@
 // Ports, BUS and the expander.
 use crate::Effect;
 use crate::Event;
-use isa::Digit;
+use isa::DigitMove;
 use isa::Join;
 use isa::Latch;
 use machine::Ports;
 use machine::State;
+use machine::pins;
 ghost use mathlib.Core.Path.{_≡_};
 ghost use Rattle.effects.specs.Ports.{input, latchOf, output, joined, expanderMoved};
 
@@ -18,9 +19,9 @@ pub fn read_pins(l: Latch, s: State, second: u32) -> State
         Latch::Bus => s.with_a((second % 256) as u8),
         Latch::Port(p) => {
             if p == 1 {
-                s.with_a(q.p1 & ((second / 0x100 % 256) as u8))
+                s.with_a(q.p1 & ((second / pins::P1 % 256) as u8))
             } else {
-                s.with_a(q.p2 & ((second / 0x1_0000 % 256) as u8))
+                s.with_a(q.p2 & ((second / pins::P2 % 256) as u8))
             }
         }
     }
@@ -76,19 +77,25 @@ pub fn join_latch(op: Join, x: u8, d: u8) -> u8
     }
 }
 
-pub fn move_digit(op: Digit, p: u8, s: State, second: u32) -> Effect
+pub fn move_digit(op: DigitMove, p: u8, s: State, second: u32) -> Effect
     ensures { λ r. ⌜ r ≡ expanderMoved op p s second ⌝ }
 {
     match op {
-        Digit::MovdRead => crate::signalled_effect(
-            s.with_a((second / 0x1_0000 % 256 % 16) as u8),
-            Event::ExpanderMove(Digit::MovdRead, p, s.a % 16),
+        DigitMove::MovdRead => crate::signalled_effect(
+            s.with_a((second / pins::P2 % 256 % 16) as u8),
+            Event::ExpanderMove(DigitMove::MovdRead, p, s.a % 16),
         ),
-        Digit::MovdWrite => crate::signalled_effect(
+        DigitMove::MovdWrite => crate::signalled_effect(
             s,
-            Event::ExpanderMove(Digit::MovdWrite, p, s.a % 16),
+            Event::ExpanderMove(DigitMove::MovdWrite, p, s.a % 16),
         ),
-        Digit::Orld => crate::signalled_effect(s, Event::ExpanderMove(Digit::Orld, p, s.a % 16)),
-        Digit::Anld => crate::signalled_effect(s, Event::ExpanderMove(Digit::Anld, p, s.a % 16)),
+        DigitMove::Orld => crate::signalled_effect(
+            s,
+            Event::ExpanderMove(DigitMove::Orld, p, s.a % 16),
+        ),
+        DigitMove::Anld => crate::signalled_effect(
+            s,
+            Event::ExpanderMove(DigitMove::Anld, p, s.a % 16),
+        ),
     }
 }

@@ -7,8 +7,8 @@ use mathlib.Core.Path.{_≡_, refl}
 use Rattle.isa.specs.Choice.{pick}
 use Rattle.isa.specs.declared.Condition.{Condition}
 use Rattle.isa.specs.declared.Condition.the-variants.{Jb, Jc, Jf0, Jf1, Jnc, Jni, Jnt0, Jnt1, Jnz, Jtf, Jt0, Jt1, Jz}
-use Rattle.isa.specs.declared.Digit.{Digit}
-use Rattle.isa.specs.declared.Digit.the-variants.{MovdRead, MovdWrite, Orld, Anld}
+use Rattle.isa.specs.declared.DigitMove.{DigitMove}
+use Rattle.isa.specs.declared.DigitMove.the-variants.{MovdRead, MovdWrite, Orld, Anld}
 use Rattle.isa.specs.declared.Flag.{Flag}
 use Rattle.isa.specs.declared.Flag.the-variants.{FlagC, FlagF0, FlagF1}
 use Rattle.isa.specs.declared.Instruction.{Instruction}
@@ -116,7 +116,7 @@ output-keeps : (l : Latch) (s : State) (v : ℕ) → settingOf (output l s v) �
 output-keeps Bus s v = refl
 output-keeps (Port p) s v = refl
 
-expander-keeps : (op : Digit) (p : ℕ) (s : State) (second : ℕ) → Keeps s (expanderMoved op p s second)
+expander-keeps : (op : DigitMove) (p : ℕ) (s : State) (second : ℕ) → Keeps s (expanderMoved op p s second)
 expander-keeps MovdRead p s second = (refl, refl)
 expander-keeps MovdWrite p s second = (refl, refl)
 expander-keeps Orld p s second = (refl, refl)

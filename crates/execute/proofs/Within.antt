@@ -3,14 +3,14 @@
 use Prim.Native.Nat.{ℕ, _+_, _*_, _/_, _%_, _<_}
 use mathlib.Core.Bool.{Bool, true, false}
 use mathlib.Core.List.{List}
-use mathlib.Core.Path.{_≡_, refl}
+use mathlib.Core.Path.{_≡_}
 use native.Mathlib.Omega.{arith}
 use lib.Dec.{lit≤}
 use Rattle.isa.specs.Choice.{pick}
 use Rattle.isa.specs.declared.Condition.{Condition}
 use Rattle.isa.specs.declared.Condition.the-variants.{Jb, Jc, Jf0, Jf1, Jnc, Jni, Jnt0, Jnt1, Jnz, Jtf, Jt0, Jt1, Jz}
-use Rattle.isa.specs.declared.Digit.{Digit}
-use Rattle.isa.specs.declared.Digit.the-variants.{MovdRead, MovdWrite, Orld, Anld}
+use Rattle.isa.specs.declared.DigitMove.{DigitMove}
+use Rattle.isa.specs.declared.DigitMove.the-variants.{MovdRead, MovdWrite, Orld, Anld}
 use Rattle.isa.specs.declared.Flag.{Flag}
 use Rattle.isa.specs.declared.Flag.the-variants.{FlagC, FlagF0, FlagF1}
 use Rattle.isa.specs.declared.Instruction.{Instruction}
@@ -151,7 +151,7 @@ module _ (s : State) (h : WithinSizes s) where
   output-within Bus v = h
   output-within (Port p) v = h
 
-  expander-within : (op : Digit) (p second : ℕ) → WithinSizes (expanderMoved op p s second .state)
+  expander-within : (op : DigitMove) (p second : ℕ) → WithinSizes (expanderMoved op p s second .state)
   expander-within MovdRead p second = h
   expander-within MovdWrite p second = h
   expander-within Orld p second = h

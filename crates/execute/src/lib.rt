@@ -12,6 +12,7 @@ use flow::control;
 use flow::jumps;
 use flow::stack;
 use isa::Instruction;
+use isa::pages;
 use machine::Count;
 use machine::State;
 ghost use mathlib.Core.Path.{_≡_};
@@ -26,7 +27,7 @@ fn with_t(s: State, t: u8) -> State
         divider: s.divider,
         tf: s.tf,
         request: s.request,
-        t1: s.t1,
+        last: s.last,
     })
 }
 
@@ -52,15 +53,15 @@ pub fn execute(
         Instruction::Djnz(r, d) => jumps::djnz(s, ram, memory::register(s.psw, r), base, d),
         Instruction::Branch(c, d) => quiet_effect(jumps::branch(c, s, base, d, first)),
         Instruction::Jmp(a) => quiet_effect(s.with_pc(jumps::far_target(s, a))),
-        Instruction::Jmpp => jumps::jump_by_table(program, s, base, jumps::jmpp_address(base, s.a)),
+        Instruction::Jmpp => jumps::jump_by_table(program, s, base, pages::jmpp_address(base, s.a)),
         Instruction::Control(op) => control::switch(op, s),
         Instruction::MovA(from) => quiet_effect(s.with_a(memory::source(from, ram, s.psw))),
         Instruction::Mov(to) => stored_effect(s, memory::place(to, ram, s.psw), s.a),
         Instruction::MovData(to, d) => stored_effect(s, memory::place(to, ram, s.psw), d),
         Instruction::MovAPsw => quiet_effect(s.with_a(s.psw)),
         Instruction::MovPswA => quiet_effect(s.with_psw(s.a / 16 * 16 + 8 + s.a % 8)),
-        Instruction::Movp => jumps::load_table(program, s, base, jumps::movp_address(base, s.a)),
-        Instruction::Movp3 => jumps::load_table(program, s, base, jumps::movp3_address(base, s.a)),
+        Instruction::Movp => jumps::load_table(program, s, base, pages::movp_address(base, s.a)),
+        Instruction::Movp3 => jumps::load_table(program, s, base, pages::movp3_address(base, s.a)),
         Instruction::MovxRead(r) => signalled_effect(
             s.with_a((second % 256) as u8),
             Event::ExternalRead(memory::cell(ram, memory::register(s.psw, r))),

@@ -3,10 +3,9 @@
 use Prim.Native.Nat.{ℕ, _+_, _*_, _/_, _%_}
 use mathlib.Core.Bool.{false}
 use mathlib.Core.List.{List}
+use Rattle.isa.specs.Reading.{byteAt}
 use Rattle.machine.specs.State.{withCore, withInterrupts}
-use Rattle.machine.specs.declared.Interrupts.{Interrupts}
 use Rattle.machine.specs.declared.State.{State}
-use Rattle.effects.specs.Memory.{cellAt}
 use Rattle.effects.specs.Psw.{sp, withSp}
 use Rattle.effects.specs.declared.Effect.{Effect}
 use Rattle.effects.specs.declared.Event.the-variants.{Quiet}
@@ -26,11 +25,12 @@ pushed s to =
 abbrev pub spBelow : State → ℕ
 spBelow s = (sp (s .psw) + 7) % 8
 
+-- (RAM holds bytes; % 256 makes the definition total, so that PC stays below 4,096 whatever is read.)
 abbrev pub lowByte : State → List ℕ → ℕ
-lowByte s ram = cellAt ram (8 + spBelow s * 2) % 256
+lowByte s ram = byteAt ram (8 + spBelow s * 2) % 256
 
 abbrev pub highByte : State → List ℕ → ℕ
-highByte s ram = cellAt ram (8 + spBelow s * 2 + 1)
+highByte s ram = byteAt ram (8 + spBelow s * 2 + 1)
 
 -- "RET counts SP down and restores all 12 bits of PC."
 abbrev pub returned : State → List ℕ → State
@@ -41,4 +41,4 @@ abbrev pub restored : State → List ℕ → State
 restored s ram =
     withInterrupts
     (withCore s (s .a) (lowByte s ram + highByte s ram % 16 * 256) (highByte s ram / 16 * 16 + s .psw / 8 % 2 * 8 + spBelow s))
-    (record { external = s .interrupts .external; timer = s .interrupts .timer; service = false })
+    (record { external = s .interrupts .external; tcnti = s .interrupts .tcnti; service = false })

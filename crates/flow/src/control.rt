@@ -7,7 +7,7 @@ use machine::Counting;
 use machine::Interrupts;
 use machine::State;
 ghost use mathlib.Core.Path.{_≡_};
-ghost use Rattle.flow.specs.Control.{withF1, withDbf, cleared, complemented, externalEnabled, timerEnabled, switched};
+ghost use Rattle.flow.specs.Control.{withF1, withDbf, cleared, complemented, externalEnabled, tcntiEnabled, switched};
 
 fn with_f1(s: State, f1: bool) -> State
     ensures { λ r. ⌜ r ≡ withF1 s f1 ⌝ }
@@ -47,13 +47,13 @@ fn enable_external(on: bool, s: State) -> State
     let i = s.interrupts;
     s.with_interrupts(Interrupts {
         external: on,
-        timer: i.timer,
+        tcnti: i.tcnti,
         service: i.service,
     })
 }
 
-fn enable_timer(on: bool, s: State) -> State
-    ensures { λ r. ⌜ r ≡ timerEnabled on s ⌝ }
+fn enable_tcnti(on: bool, s: State) -> State
+    ensures { λ r. ⌜ r ≡ tcntiEnabled on s ⌝ }
 {
     let i = s.interrupts;
     let t = s.with_count(Count {
@@ -61,11 +61,11 @@ fn enable_timer(on: bool, s: State) -> State
         divider: s.divider,
         tf: s.tf,
         request: s.request & on,
-        t1: s.t1,
+        last: s.last,
     });
     t.with_interrupts(Interrupts {
         external: i.external,
-        timer: on,
+        tcnti: on,
         service: i.service,
     })
 }
@@ -81,8 +81,8 @@ pub fn switch(op: Switch, s: State) -> Effect
         Switch::SelMb1 => effects::quiet_effect(with_dbf(s, true)),
         Switch::SelRb0 => effects::quiet_effect(s.with_psw(s.psw / 32 * 32 + s.psw % 16)),
         Switch::SelRb1 => effects::quiet_effect(s.with_psw(s.psw / 32 * 32 + 16 + s.psw % 16)),
-        Switch::EnTcnti => effects::quiet_effect(enable_timer(true, s)),
-        Switch::DisTcnti => effects::quiet_effect(enable_timer(false, s)),
+        Switch::EnTcnti => effects::quiet_effect(enable_tcnti(true, s)),
+        Switch::DisTcnti => effects::quiet_effect(enable_tcnti(false, s)),
         Switch::StopTcnt => effects::quiet_effect(s.with_counting(Counting::Stopped, s.divider)),
         Switch::StrtCnt => effects::started_effect(s.with_counting(Counting::Counter, s.divider)),
         Switch::StrtT => effects::started_effect(s.with_counting(Counting::Timer, 0)),

@@ -1,40 +1,12 @@
-// Where a jump goes and where a table byte stands.
+// Jumps, and table bytes; `base` is the address of the instruction's first byte.
 use effects::Effect;
 use isa::Condition;
+use isa::pages;
 use machine::Count;
 use machine::State;
+use machine::pins;
 ghost use mathlib.Core.Path.{_≡_};
-ghost use Rattle.flow.specs.Jumps.{inPage, branchTarget, movpAddress, jmppAddress, movp3Address, farTarget, jumpIf, withoutTf, branched, decremented, tableLoaded, tableJumped};
-
-fn in_page(of: u16, d: u8) -> u16
-    ensures { λ r. ⌜ r ≡ inPage of d ⌝ }
-{
-    of / 256 * 256 + d as u16
-}
-
-fn branch_target(base: u16, d: u8) -> u16
-    ensures { λ r. ⌜ r ≡ branchTarget base d ⌝ }
-{
-    in_page(base, d)
-}
-
-pub fn movp_address(base: u16, a: u8) -> u16
-    ensures { λ r. ⌜ r ≡ movpAddress base a ⌝ }
-{
-    in_page(base, a)
-}
-
-pub fn jmpp_address(base: u16, a: u8) -> u16
-    ensures { λ r. ⌜ r ≡ jmppAddress base a ⌝ }
-{
-    in_page(base, a)
-}
-
-pub fn movp3_address(base: u16, a: u8) -> u16
-    ensures { λ r. ⌜ r ≡ movp3Address base a ⌝ }
-{
-    base / 2048 * 2048 + 0x300 + a as u16
-}
+ghost use Rattle.flow.specs.Jumps.{farTarget, jumpIf, withoutTf, branched, decremented, tableLoaded, tableJumped};
 
 pub fn far_target(s: State, a: u16) -> u16
     ensures { λ r. ⌜ r ≡ farTarget s a ⌝ }
@@ -48,7 +20,7 @@ fn jump_if(taken: bool, s: State, base: u16, d: u8) -> State
     ensures { λ r. ⌜ r ≡ jumpIf taken s base d ⌝ }
 {
     if taken {
-        s.with_pc(branch_target(base, d))
+        s.with_pc(pages::branch_target(base, d))
     } else {
         s
     }
@@ -62,7 +34,7 @@ fn without_tf(s: State) -> State
         divider: s.divider,
         tf: false,
         request: s.request,
-        t1: s.t1,
+        last: s.last,
     })
 }
 
@@ -75,13 +47,13 @@ pub fn branch(c: Condition, s: State, base: u16, d: u8, first: u32) -> State
         Condition::Jf0 => jump_if(s.psw / 32 % 2 == 1, s, base, d),
         Condition::Jf1 => jump_if(s.f1, s, base, d),
         Condition::Jnc => jump_if(s.psw / 128 == 0, s, base, d),
-        Condition::Jni => jump_if(first / 0x100_0000 % 2 == 0, s, base, d),
-        Condition::Jnt0 => jump_if(first / 0x200_0000 % 2 == 0, s, base, d),
-        Condition::Jnt1 => jump_if(first / 0x400_0000 % 2 == 0, s, base, d),
+        Condition::Jni => jump_if(first / pins::INT % 2 == 0, s, base, d),
+        Condition::Jnt0 => jump_if(first / pins::T0 % 2 == 0, s, base, d),
+        Condition::Jnt1 => jump_if(first / pins::T1 % 2 == 0, s, base, d),
         Condition::Jnz => jump_if(s.a != 0, s, base, d),
         Condition::Jtf => jump_if(s.tf, without_tf(s), base, d),
-        Condition::Jt0 => jump_if(first / 0x200_0000 % 2 == 1, s, base, d),
-        Condition::Jt1 => jump_if(first / 0x400_0000 % 2 == 1, s, base, d),
+        Condition::Jt0 => jump_if(first / pins::T0 % 2 == 1, s, base, d),
+        Condition::Jt1 => jump_if(first / pins::T1 % 2 == 1, s, base, d),
         Condition::Jz => jump_if(s.a == 0, s, base, d),
     }
 }
@@ -112,5 +84,5 @@ pub fn jump_by_table(program: &[u8], s: State, base: u16, address: u16) -> Effec
     if program.len() <= at {
         return effects::lacking_effect(s.with_pc(base));
     }
-    effects::quiet_effect(s.with_pc(in_page(base, program[at])))
+    effects::quiet_effect(s.with_pc(pages::in_page(base, program[at])))
 }

@@ -50,7 +50,7 @@ pub fn retr(s: State, ram: &[u8]) -> State
     );
     t.with_interrupts(Interrupts {
         external: i.external,
-        timer: i.timer,
+        tcnti: i.tcnti,
         service: false,
     })
 }

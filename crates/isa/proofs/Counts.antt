@@ -6,7 +6,6 @@ use mathlib.Core.Bool.{Bool, true, _&&_}
 use Prim.Native.Nat.{ℕ, zero, suc, _+_, _<_, _≤_}
 use lib.Dec.{eqb, leb, leb→le}
 use lib.ListN.{length}
-use borrow.Author.Tests.{eq-eqb}
 use Rattle.isa.specs.Choice.{pick}
 use Rattle.isa.specs.Sheet.{Row, rows, fits, entryOf, kindOf}
 use Rattle.isa.proofs.Everywhere.{everywhere}

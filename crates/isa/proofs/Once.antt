@@ -5,10 +5,9 @@
 use mathlib.Core.Path.{_≡_, refl, sym, _∙_, ap}
 use mathlib.Core.List.{List}
 use Prim.Native.Nat.{ℕ}
-use native.Mathlib.Omega.{arith}
 use lib.Dec.{eqb}
 use Rattle.isa.specs.Choice.{pick}
-use Rattle.isa.specs.Numbers.{numberOf, Answer, given, refused}
+use Rattle.isa.specs.Numbers.{numberOf}
 use Rattle.isa.specs.Reading.{readOf, readAs}
 use Rattle.isa.specs.declared.Refusal.{Refusal}
 use Rattle.isa.specs.declared.Refusal.the-variants.{ProgramLength, RamLength, StateOutside, UndefinedCode, PastEnd, SampleBits, LineTooShort, OperandTooLarge}

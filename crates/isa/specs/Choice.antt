@@ -10,6 +10,11 @@ unfoldable pub pick {ℓ} : {A : Type ℓ} → Bool → A → A → A
 pick true a b = a
 pick false a b = b
 
+-- 1 if the test holds, else 0.
+abbrev pub oneIf : Bool → ℕ
+oneIf true = 1
+oneIf false = 0
+
 -- k is one of the numbers from low to high.
 abbrev pub within : ℕ → ℕ → ℕ → Bool
 within low high k = leb low k && leb k high

@@ -1,5 +1,6 @@
 pub mod Choice
 pub mod Numbers
+pub mod Pages
 pub mod Reading
 pub mod Sheet
 pub mod Table

@@ -16,7 +16,7 @@ use Rattle.isa.specs.declared.Condition.the-variants.{Jb, Jc, Jf0, Jf1, 
 use Rattle.isa.specs.declared.Flag.the-variants.{FlagC, FlagF0, FlagF1}
 use Rattle.isa.specs.declared.Latch.the-variants.{Bus, Port}
 use Rattle.isa.specs.declared.Join.the-variants.{AnlLatch, OrlLatch}
-use Rattle.isa.specs.declared.Digit.the-variants.{MovdRead, MovdWrite, Orld, Anld}
+use Rattle.isa.specs.declared.DigitMove.the-variants.{MovdRead, MovdWrite, Orld, Anld}
 use Rattle.isa.specs.declared.Switch.the-variants.{EnI, DisI, Ent0Clk, SelMb0, SelMb1, SelRb0, SelRb1, EnTcnti, DisTcnti, StopTcnt, StrtCnt, StrtT}
 use Rattle.isa.specs.declared.Instruction.{Instruction}
 use Rattle.isa.specs.declared.Instruction.the-variants.{Alu, Accumulator, Djnz, Branch, Jmp, Jmpp, Control, MovA, Mov, MovData, MovAPsw, MovPswA, Movp, Movp3, MovxRead, MovxWrite, Xch, Xchd, Cpl, Clr, Logic, In, Outl, Expander, Dec, Inc, Call, Ret, Retr, MovAT, MovTA, Nop}
@@ -42,7 +42,7 @@ row code place bytes cycles make text =
 
 -- The 96 instructions. In the instruction n is the operand in the code and d the second byte. In the text a small letter stands for a
 -- number: r and p the register and the port in bits 0-2 of the code, b bits 5-7, d the second byte, a an address of 11 bits, t an
--- address in the page.
+-- address in the page. Cycles are document 01's: it gives two to OUTL, MOVD and ORLD, where 001 prints one.
 abbrev pub rows : List Row
 rows =
     -- Accumulator
@@ -153,7 +153,7 @@ rows =
     row 0b0000_0000 none 1 1 (λ n d. Nop) "NOP" ∷
     []
 
--- What stands for an undefined code: a data byte, which is the code itself.
+-- What stands for an undefined code: a data byte, which is the code itself. It has 0 bytes, which no instruction has, and so is told by them.
 abbrev pub undefinedRow : Row
 undefinedRow = row 0 none 0 0 (λ n d. Nop) "DB d"
 

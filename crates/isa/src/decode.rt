@@ -1,7 +1,7 @@
 // From the number of a row and an instruction's bytes to the instruction.
 use crate::Cell;
 use crate::Condition;
-use crate::Digit;
+use crate::DigitMove;
 use crate::Flag;
 use crate::Instruction;
 use crate::Join;
@@ -105,13 +105,13 @@ pub fn made(kind: u8, code: u8, d: u8) -> Instruction
         // Input/output
         71 => Instruction::Logic(Join::AnlLatch, Latch::Bus, d),
         72 => Instruction::Logic(Join::AnlLatch, Latch::Port(code % 8), d),
-        73 => Instruction::Expander(Digit::Anld, code % 8),
+        73 => Instruction::Expander(DigitMove::Anld, code % 8),
         74 => Instruction::In(Latch::Port(code % 8)),
         75 => Instruction::In(Latch::Bus),
-        76 => Instruction::Expander(Digit::MovdRead, code % 8),
-        77 => Instruction::Expander(Digit::MovdWrite, code % 8),
+        76 => Instruction::Expander(DigitMove::MovdRead, code % 8),
+        77 => Instruction::Expander(DigitMove::MovdWrite, code % 8),
         78 => Instruction::Logic(Join::OrlLatch, Latch::Bus, d),
-        79 => Instruction::Expander(Digit::Orld, code % 8),
+        79 => Instruction::Expander(DigitMove::Orld, code % 8),
         80 => Instruction::Logic(Join::OrlLatch, Latch::Port(code % 8), d),
         81 => Instruction::Outl(Latch::Bus),
         82 => Instruction::Outl(Latch::Port(code % 8)),

@@ -4,7 +4,11 @@ ghost use Rattle.isa.specs.Numbers.{numberOf};
 ghost use Rattle.isa.specs.Reading.{decodedAt, nextPc, readAs, readOf};
 
 pub mod decode; // from a row's number and the bytes to the instruction
+pub mod pages; // the 256-byte pages of jumps and tables
 pub mod table; // length, cycles and kind of each code
+
+// The longest program that there is.
+pub const PROGRAM_LIMIT: usize = 4096;
 
 // Why a call is refused, in the whole product; specs/Numbers.antt gives each its number.
 pub enum Refusal {
@@ -90,7 +94,7 @@ pub enum Join {
 }
 
 // The moves of a digit to and from the expander's ports P4 to P7: MOVD A,Pp and MOVD Pp,A, ORLD, ANLD.
-pub enum Digit {
+pub enum DigitMove {
     MovdRead,
     MovdWrite,
     Orld,
@@ -148,7 +152,7 @@ pub enum Instruction {
     // IN A,Pp and INS A,BUS
     In(Latch),
     Outl(Latch),
-    Expander(Digit, u8),
+    Expander(DigitMove, u8),
     Dec(u8),
     Inc(Cell),
     Call(u16),
@@ -213,7 +217,7 @@ fn decoded_at(program: &[u8], pc: u16, code: u8) -> Decoded
 pub fn read(program: &[u8], address: usize) -> Decoded
     ensures { λ r. ⌜ readAs r ≡ readOf (now (program .entry)) address ⌝ }
 {
-    if 4096 < program.len() {
+    if PROGRAM_LIMIT < program.len() {
         return Decoded::Unread(Refusal::ProgramLength);
     }
     if program.len() <= address {

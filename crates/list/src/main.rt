@@ -1,24 +1,43 @@
-// Lists the program on standard input: at most 4,096 bytes, or `refused 1`.
+// Lists the program on standard input, line by line: at most 4,096 bytes, or `refused 1`.
+use isa::PROGRAM_LIMIT;
+use isa::Refusal;
 use libc::STDIN_FILENO;
 use libc::STDOUT_FILENO;
-use listing::Whole;
+use listing::LINE_BYTES;
+use listing::Listed;
 
-// Writes the first n bytes of the buffer.
-fn write_front(buffer: &[u8], n: usize) {
-    if n <= buffer.len() {
-        io::write_all(STDOUT_FILENO, &buffer[..n]);
+// Prints `refused 1` for a program that is too long. No other refusal has a text: each line is asked for at an address that the program has,
+// with a buffer that is long enough, so there is none.
+fn write_refusal(r: Refusal) {
+    match r {
+        Refusal::ProgramLength => {
+            io::write_all(STDOUT_FILENO, b"refused 1\n");
+        }
+        _ => {}
     }
 }
 
-fn main() {
-    let mut program = [0u8; 4097];
-    let n = io::read_full(STDIN_FILENO, &mut program);
-    let mut buffer = [0u8; 131072];
-    let answer = listing::lines(&program[..n], &mut buffer);
-    match answer {
-        Whole::Written(k) => write_front(&buffer, k),
-        Whole::Refused(_) => {
-            io::write_all(STDOUT_FILENO, b"refused 1\n");
+// Prints a program's lines, each from where the bytes end that the one before shows.
+fn write_lines(program: &[u8]) {
+    let mut line = [0u8; LINE_BYTES];
+    let mut at = 0;
+    while at < program.len() {
+        match listing::line(program, at, &mut line) {
+            Listed::Printed(n, size) => {
+                io::write_all(STDOUT_FILENO, &line[..n]);
+                at += size as usize;
+            }
+            Listed::Unlisted(r) => {
+                write_refusal(r);
+                return;
+            }
         }
     }
+}
+
+// Reads one byte more than a program may have, so that a longer one is seen.
+fn main() {
+    let mut program = [0u8; PROGRAM_LIMIT + 1];
+    let n = io::read_full(STDIN_FILENO, &mut program);
+    write_lines(&program[..n]);
 }

@@ -1,5 +1,6 @@
 pub mod Drafts
+pub mod Example
+pub mod Lines
 pub mod Once
 pub mod Short
 pub mod Texts
-pub mod Wholes

@@ -1,15 +1,13 @@
--- Two answers of the listing's routines that meet one statement are equal, and so are the buffers that they leave.
+-- Two answers of `line` that meet its statement are equal, and so are the buffers that they leave.
 -- Assumes nothing.
 use Prim.Native.Nat.{ℕ}
 use mathlib.Core.List.{List}
 use mathlib.Core.Path.{_≡_, ap}
 use lib.ListN.{length}
 use Rattle.isa.proofs.Once.{once, one-number}
-use Rattle.listing.specs.Listing.{listedAs, listedOf, lineAfter, wholeAs, wholeOf, wholeAfter}
+use Rattle.listing.specs.Listing.{listedAs, listedOf, lineAfter}
 use Rattle.listing.specs.declared.Listed.{Listed}
 use Rattle.listing.specs.declared.Listed.the-variants.{Printed, Unlisted}
-use Rattle.listing.specs.declared.Whole.{Whole}
-use Rattle.listing.specs.declared.Whole.the-variants.{Written, Refused}
 
 listed-as-once : (r s : Listed) → listedAs r ≡ listedAs s → r ≡ s
 listed-as-once (Printed n k) (Printed m j) e = cc
@@ -21,14 +19,3 @@ pub line-once :
     (program : List ℕ) (a : ℕ) (old : List ℕ) (r s : Listed) {b c : List ℕ} → listedAs r ≡ listedOf program a (length old)
     → b ≡ lineAfter program a old → listedAs s ≡ listedOf program a (length old) → c ≡ lineAfter program a old → (r ≡ s) × (b ≡ c)
 line-once program a old r s p q p' q' = (listed-as-once r s (once p p'), once q q')
-
-whole-as-once : (r s : Whole) → wholeAs r ≡ wholeAs s → r ≡ s
-whole-as-once (Written n) (Written m) e = cc
-whole-as-once (Written n) (Refused r) e = cc
-whole-as-once (Refused r) (Written n) e = cc
-whole-as-once (Refused r) (Refused s) e = ap Refused (one-number r s (cc))
-
-pub lines-once :
-    (program old : List ℕ) (r s : Whole) {b c : List ℕ} → wholeAs r ≡ wholeOf program (length old) → b ≡ wholeAfter program old
-    → wholeAs s ≡ wholeOf program (length old) → c ≡ wholeAfter program old → (r ≡ s) × (b ≡ c)
-lines-once program old r s p q p' q' = (whole-as-once r s (once p p'), once q q')

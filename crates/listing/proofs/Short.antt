@@ -1,19 +1,19 @@
 -- A line of the listing has at most 32 bytes.
 -- Assumes nothing.
 use Rattle.isa.specs.Choice.{pick}
-use mathlib.Core.Path.{_≡_, refl, sym, _∙_, ap}
+use mathlib.Core.Path.{refl}
 use mathlib.Core.List.{List, [], _∷_, _++_}
 use mathlib.Core.Bool.{Bool, true, false}
-use Prim.Native.Nat.{ℕ, zero, suc, _+_, _*_, _/_, _%_, _<_, _≤_, zero-le}
+use Prim.Native.Nat.{ℕ, _+_, _*_, _/_, _%_, _<_, _≤_, zero-le}
 use native.Mathlib.Omega.{arith}
 use lib.ListN.{length, getD, length-append}
 use lib.Dec.{ltb, eqb, leb, leb→le, lit≤}
 use Rattle.isa.proofs.Everywhere.{everywhere}
 use Rattle.isa.specs.declared.table.Entry.{Entry}
 use Rattle.isa.specs.Sheet.{entryOf}
-use Rattle.flow.specs.Jumps.{branchTarget}
-use Rattle.listing.specs.Text.{ascii, digitOf, hex2, hex3, byteNumber, addressNumber, expand, expandAll, lettersOf, ending, lineOne, lineTwo}
-use Rattle.listing.specs.Listing.{twoAt, lineWith, lineAt}
+use Rattle.isa.specs.Pages.{branchTarget}
+use Rattle.listing.specs.Text.{ascii, digitOf, hex2, hex3, byteNumber, addressNumber, expand, expandAll, lettersOf, lineOne, lineTwo}
+use Rattle.listing.specs.Listing.{twoAt, lineAt}
 use Rattle.listing.proofs.Texts.{kind-small}
 
 byte-short : (d : ℕ) → length (byteNumber d) ≤ 4

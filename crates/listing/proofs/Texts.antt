@@ -1,13 +1,13 @@
 -- Laws of the rows' texts: how they are put letter by letter, and how long they are.
 -- Assumes nothing.
-use mathlib.Core.Path.{_≡_, refl, sym, _∙_, ap, subst}
+use mathlib.Core.Path.{_≡_, refl, sym, _∙_, ap}
 use mathlib.Core.List.{List, [], _∷_, _++_, append-assoc, append-nil}
 use mathlib.Core.Bool.{Bool, true, false, not, _&&_}
-use Prim.Native.Nat.{ℕ, zero, suc, _+_, _*_, _/_, _%_, _<_, _≤_, zero-le, suc-le-suc}
+use Prim.Native.Nat.{ℕ, zero, suc, _+_, _<_, _≤_, zero-le, suc-le-suc}
 use native.Mathlib.Nat.{add-zero, zero-add, add-suc, suc-add, le-of-suc-le-suc, not-suc-le-zero}
 use native.Mathlib.Omega.{arith}
-use lib.ListN.{length, getD, take, length-append}
-use lib.Dec.{T, eqb, leb, leb→le, eqb→eq}
+use lib.ListN.{length, getD}
+use lib.Dec.{eqb, leb, leb→le}
 use borrow.Author.Tests.{eq-eqb}
 use Rattle.isa.proofs.Everywhere.{everywhere}
 use Rattle.isa.specs.declared.table.Entry.{Entry}

@@ -1,6 +1,6 @@
 -- The line of a listing at an address of a program, what the routine answers and leaves in its buffer, and the listing of a whole program.
 -- Assumes nothing.
-use Prim.Native.Nat.{ℕ, zero, suc, _+_, _*_, _%_}
+use Prim.Native.Nat.{ℕ, zero, suc, _+_, _%_}
 use mathlib.Core.Bool.{Bool, _&&_}
 use mathlib.Core.List.{List, [], _++_}
 use lib.Dec.{ltb, eqb}
@@ -13,8 +13,6 @@ use Rattle.isa.specs.declared.table.Entry.{Entry}
 use Rattle.listing.specs.Text.{lineOne, lineTwo}
 use Rattle.listing.specs.declared.Listed.{Listed}
 use Rattle.listing.specs.declared.Listed.the-variants.{Printed, Unlisted}
-use Rattle.listing.specs.declared.Whole.{Whole}
-use Rattle.listing.specs.declared.Whole.the-variants.{Written, Refused}
 
 -- Two bytes are shown: the code has two, it does not stand "at 7FF or FFF", and it does not lack its second byte.
 abbrev pub twoAt : List ℕ → ℕ → Entry → Bool
@@ -67,23 +65,7 @@ shownFrom zero program a = []
 shownFrom (suc n) program a =
     pick (lacks program a) [] (listed (λ k. k) (sizeAt program a) a ++ shownFrom n program (a + sizeAt program a))
 
--- The listing of a whole program. (A line shows at least one byte, so there are no more lines than bytes.)
+-- The listing of a whole program, which the program `list` prints line by line. (A line shows at least one byte, so there are no more lines
+-- than bytes.)
 abbrev pub listingOf : List ℕ → List ℕ
 listingOf program = linesFrom (length program) program 0
-
--- 1, or 7 for a buffer that has less than 32 bytes for each byte of the program; else the listing's length.
-unfoldable pub wholeOf : List ℕ → ℕ → Answer ℕ
-wholeOf program room =
-    pick (ltb 4096 (length program)) (refused 1)
-    (pick (ltb room (32 * length program)) (refused 7)
-    (given (length (listingOf program))))
-
-unfoldable pub wholeAfter : List ℕ → List ℕ → List ℕ
-wholeAfter program old =
-    pick (ltb 4096 (length program)) old
-    (pick (ltb (length old) (32 * length program)) old
-    (listingOf program ++ drop (length (listingOf program)) old))
-
-abbrev pub wholeAs : Whole → Answer ℕ
-wholeAs (Written n) = given n
-wholeAs (Refused r) = refused (numberOf r)

@@ -6,8 +6,8 @@ use Prim.Native.String.{String, [], _∷_}
 use mathlib.Core.List.{List, _++_, [] as []ᴸ, _∷_ as _∷ᴸ_}
 use lib.Dec.{ltb, eqb}
 use Rattle.isa.specs.Choice.{pick}
+use Rattle.isa.specs.Pages.{branchTarget}
 use Rattle.isa.specs.Sheet.{rowOf}
-use Rattle.flow.specs.Jumps.{branchTarget}
 
 -- The bytes of a text.
 abbrev pub ascii : String → List ℕ

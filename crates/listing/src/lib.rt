@@ -1,16 +1,20 @@
 // One line of a listing: address, bytes, text, LF.
+use isa::PROGRAM_LIMIT;
 use isa::Refusal;
 ghost use mathlib.Core.Path.{_≡_};
-ghost use mathlib.Core.List.{List, [], _∷_, _++_};
+ghost use mathlib.Core.List.{[], _∷_, _++_};
 ghost use Prim.Native.Nat.{_+_, _*_, _≤_, _<_};
 ghost use lib.ListN.{length, take, drop, getD};
 ghost use Rattle.listing.specs.Draft.{cut, textIn, Adds};
-ghost use Rattle.listing.specs.Listing.{lineAt, sizeAt, listedAs, listedOf, lineAfter, wholeAs, wholeOf, wholeAfter};
+ghost use Rattle.listing.specs.Listing.{lineAt, sizeAt, listedAs, listedOf, lineAfter};
 ghost use Rattle.listing.specs.Text.{digitOf, hex2, hex3, lead, byteNumber, addressNumber, ascii, expand, expandAll, lettersOf, ending, lineOne, lineTwo};
+
+// The most that a line takes, its LF with it.
+pub const LINE_BYTES: usize = 32;
 
 // A line while it is made.
 pub struct Draft {
-    pub bytes: [u8; 32],
+    pub bytes: [u8; LINE_BYTES],
     pub len: usize,
 }
 
@@ -26,7 +30,7 @@ fn push(l: Draft, b: u8) -> Draft
     ensures { λ r. ⌜ Adds l (b ∷ []) r ⌝ }
 {
     let at = l.len;
-    if at < 32 {
+    if at < LINE_BYTES {
         let mut next = l;
         next.bytes[at] = b;
         next.len = at + 1;
@@ -88,7 +92,7 @@ fn put_letter(l: Draft, a: u16, code: u8, d: u8, letter: u8) -> Draft
         b'b' => push(l, digit(code / 32)),
         b'd' => put_byte(l, d),
         b'a' => put_address(l, ((code / 32) as u16) * 256 + (d as u16)),
-        b't' => put_address(l, a / 256 * 256 + (d as u16)),
+        b't' => put_address(l, isa::pages::branch_target(a, d)),
         _ => push(l, letter),
     }
 }
@@ -142,7 +146,7 @@ fn put_start(a: u16) -> Draft
     ensures { λ r. ⌜ textIn r ≡ cut (hex3 a ++ ascii "  ") ⌝ }
 {
     let l = Draft {
-        bytes: [0; 32],
+        bytes: [0; LINE_BYTES],
         len: 0,
     };
     put_spaces(put_hex3(l, a))
@@ -177,7 +181,7 @@ fn used(l: Draft) -> usize
     ensures { λ r. ⌜ (r ≤ 32) × (take r (l .bytes) ≡ textIn l) × (r ≡ length (textIn l)) ⌝ }
 {
     let n = l.len;
-    if n < 32 { n } else { 32 }
+    if n < LINE_BYTES { n } else { LINE_BYTES }
 }
 
 // Copies the line to the front of a buffer, and gives its length.
@@ -241,10 +245,10 @@ pub fn line(program: &[u8], address: usize, buffer: &mut [u8]) -> Listed
     ensures answer { λ r. ⌜ listedAs r ≡ listedOf (now (program .entry)) address (length (now (buffer .entry))) ⌝ }
     ensures left { λ r. ⌜ now (buffer .exit) ≡ lineAfter (now (program .entry)) address (now (buffer .entry)) ⌝ }
 {
-    if 4096 < program.len() {
+    if PROGRAM_LIMIT < program.len() {
         return Listed::Unlisted(Refusal::ProgramLength);
     }
-    if buffer.len() < 32 {
+    if buffer.len() < LINE_BYTES {
         return Listed::Unlisted(Refusal::LineTooShort);
     }
     if program.len() <= address {
@@ -255,34 +259,4 @@ pub fn line(program: &[u8], address: usize, buffer: &mut [u8]) -> Listed
     let size = r.size;
     let n = copy_line(l, buffer);
     Listed::Printed(n, size)
-}
-
-// What the routine for a whole program answers.
-pub enum Whole {
-    // The length of the listing.
-    Written(usize),
-    Refused(Refusal),
-}
-
-// The listing of a whole program, line by line, into a buffer that has 32 bytes for each byte of the program.
-pub fn lines(program: &[u8], buffer: &mut [u8]) -> Whole
-    ensures answer { λ r. ⌜ wholeAs r ≡ wholeOf (now (program .entry)) (length (now (buffer .entry))) ⌝ }
-    ensures left { λ r. ⌜ now (buffer .exit) ≡ wholeAfter (now (program .entry)) (now (buffer .entry)) ⌝ }
-{
-    if 4096 < program.len() {
-        return Whole::Refused(Refusal::ProgramLength);
-    }
-    if buffer.len() < 32 * program.len() {
-        return Whole::Refused(Refusal::LineTooShort);
-    }
-    let mut at: usize = 0;
-    let mut n: usize = 0;
-    while at < program.len() {
-        let r = show(program, at as u16);
-        let l = r.draft;
-        let size = r.size;
-        n += copy_line(l, &mut buffer[n..]);
-        at += size as usize;
-    }
-    Whole::Written(n)
 }

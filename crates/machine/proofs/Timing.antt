@@ -33,6 +33,12 @@ request-stays Stopped x t1 enabled h = rw h
 request-stays Timer x t1 enabled h = rw h
 request-stays Counter x t1 enabled h = rw h
 
+-- And so does TF, once set.
+pub tf-stays : (mode : Counting) (x : Count) (t1 enabled : Bool) → x .tf ≡ true → counted mode x t1 enabled .tf ≡ true
+tf-stays Stopped x t1 enabled h = rw h
+tf-stays Timer x t1 enabled h = rw h
+tf-stays Counter x t1 enabled h = rw h
+
 or-true : (b : Bool) → (b || true) ≡ true
 or-true true = refl
 or-true false = refl

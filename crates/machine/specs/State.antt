@@ -1,7 +1,7 @@
 -- The machine state: after power-up, within its sizes, and with one part changed.
 -- Assumes nothing.
 use Prim.Native.Nat.{ℕ, _/_, _%_}
-use mathlib.Core.Bool.{Bool, true, false, _&&_}
+use mathlib.Core.Bool.{Bool, false, _&&_}
 use lib.Dec.{ltb, eqb}
 use Rattle.machine.specs.declared.Count.{Count}
 use Rattle.machine.specs.declared.Counting.{Counting}
@@ -22,11 +22,11 @@ powerUp =
       divider = 0;
       tf = false;
       request = false;
-      t1 = false;
+      last = false;
       f1 = false;
       dbf = false;
       clock = false;
-      interrupts = record { external = false; timer = false; service = false };
+      interrupts = record { external = false; tcnti = false; service = false };
       ports = record { p1 = 0xFF; p2 = 0xFF; bus = 0xFF; driven = false };
     }
 
@@ -36,32 +36,32 @@ permitted s = ltb (s .pc) 4096 && ltb (s .divider) 32 && eqb (s .psw / 8 % 2) 1
 
 -- The part of the state that counting a cycle changes.
 abbrev pub countOf : State → Count
-countOf s = record { t = s .t; divider = s .divider; tf = s .tf; request = s .request; t1 = s .t1 }
+countOf s = record { t = s .t; divider = s .divider; tf = s .tf; request = s .request; last = s .last }
 
 -- A state with some parts changed.
 abbrev pub withCore : State → ℕ → ℕ → ℕ → State
 withCore s a pc psw =
-    record { a = a; pc = pc; psw = psw; counting = s .counting; t = s .t; divider = s .divider; tf = s .tf; request = s .request; t1 = s .t1; f1 = s .f1; dbf = s .dbf; clock = s .clock; interrupts = s .interrupts; ports = s .ports }
+    record { a = a; pc = pc; psw = psw; counting = s .counting; t = s .t; divider = s .divider; tf = s .tf; request = s .request; last = s .last; f1 = s .f1; dbf = s .dbf; clock = s .clock; interrupts = s .interrupts; ports = s .ports }
 
 abbrev pub withFlags : State → Bool → Bool → Bool → State
 withFlags s f1 dbf clock =
-    record { a = s .a; pc = s .pc; psw = s .psw; counting = s .counting; t = s .t; divider = s .divider; tf = s .tf; request = s .request; t1 = s .t1; f1 = f1; dbf = dbf; clock = clock; interrupts = s .interrupts; ports = s .ports }
+    record { a = s .a; pc = s .pc; psw = s .psw; counting = s .counting; t = s .t; divider = s .divider; tf = s .tf; request = s .request; last = s .last; f1 = f1; dbf = dbf; clock = clock; interrupts = s .interrupts; ports = s .ports }
 
 abbrev pub withCount : State → Count → State
 withCount s c =
-    record { a = s .a; pc = s .pc; psw = s .psw; counting = s .counting; t = c .t; divider = c .divider; tf = c .tf; request = c .request; t1 = c .t1; f1 = s .f1; dbf = s .dbf; clock = s .clock; interrupts = s .interrupts; ports = s .ports }
+    record { a = s .a; pc = s .pc; psw = s .psw; counting = s .counting; t = c .t; divider = c .divider; tf = c .tf; request = c .request; last = c .last; f1 = s .f1; dbf = s .dbf; clock = s .clock; interrupts = s .interrupts; ports = s .ports }
 
 abbrev pub withCounting : State → Counting → ℕ → State
 withCounting s counting divider =
-    record { a = s .a; pc = s .pc; psw = s .psw; counting = counting; t = s .t; divider = divider; tf = s .tf; request = s .request; t1 = s .t1; f1 = s .f1; dbf = s .dbf; clock = s .clock; interrupts = s .interrupts; ports = s .ports }
+    record { a = s .a; pc = s .pc; psw = s .psw; counting = counting; t = s .t; divider = divider; tf = s .tf; request = s .request; last = s .last; f1 = s .f1; dbf = s .dbf; clock = s .clock; interrupts = s .interrupts; ports = s .ports }
 
 abbrev pub withInterrupts : State → Interrupts → State
 withInterrupts s interrupts =
-    record { a = s .a; pc = s .pc; psw = s .psw; counting = s .counting; t = s .t; divider = s .divider; tf = s .tf; request = s .request; t1 = s .t1; f1 = s .f1; dbf = s .dbf; clock = s .clock; interrupts = interrupts; ports = s .ports }
+    record { a = s .a; pc = s .pc; psw = s .psw; counting = s .counting; t = s .t; divider = s .divider; tf = s .tf; request = s .request; last = s .last; f1 = s .f1; dbf = s .dbf; clock = s .clock; interrupts = interrupts; ports = s .ports }
 
 abbrev pub withPorts : State → Ports → State
 withPorts s ports =
-    record { a = s .a; pc = s .pc; psw = s .psw; counting = s .counting; t = s .t; divider = s .divider; tf = s .tf; request = s .request; t1 = s .t1; f1 = s .f1; dbf = s .dbf; clock = s .clock; interrupts = s .interrupts; ports = ports }
+    record { a = s .a; pc = s .pc; psw = s .psw; counting = s .counting; t = s .t; divider = s .divider; tf = s .tf; request = s .request; last = s .last; f1 = s .f1; dbf = s .dbf; clock = s .clock; interrupts = s .interrupts; ports = ports }
 
 abbrev pub withA : State → ℕ → State
 withA s a = withCore s a (s .pc) (s .psw)

@@ -1,6 +1,7 @@
 // The counting of one machine cycle.
 use crate::Count;
 use crate::Counting;
+use crate::State;
 ghost use mathlib.Core.Path.{_≡_};
 ghost use Rattle.machine.specs.Counting.{advanced, counted};
 
@@ -12,10 +13,16 @@ pub fn count_cycle(counting: Counting, c: Count, t1: bool, enabled: bool) -> Cou
         Counting::Stopped => advance(c, c.divider, 0, t1, enabled),
         Counting::Timer => {
             let next = c.divider as u16 + 1;
-            advance(c, (next % 32) as u8, (next / 32) as u8, t1, enabled)
+            advance(
+                c,
+                (next % State::DIVIDER_LIMIT) as u8,
+                (next / State::DIVIDER_LIMIT) as u8,
+                t1,
+                enabled,
+            )
         }
         Counting::Counter => {
-            let fall = c.t1 & !t1;
+            let fall = c.last & !t1;
             advance(c, c.divider, fall as u8, t1, enabled)
         }
     }
@@ -32,6 +39,6 @@ fn advance(c: Count, divider: u8, n: u8, t1: bool, enabled: bool) -> Count
         divider,
         tf: c.tf | over,
         request: c.request | (over & enabled),
-        t1,
+        last: t1,
     }
 }

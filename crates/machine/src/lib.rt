@@ -3,6 +3,7 @@ ghost use mathlib.Core.Path.{_≡_};
 ghost use Rattle.machine.specs.State.{powerUp, permitted, countOf, withCore, withFlags, withCount, withCounting, withInterrupts, withPorts, withA, withPc, withPsw};
 
 pub mod cycle; // one machine cycle
+pub mod pins; // the bits of a pin sample
 
 // "The counter stands still, counts cycles or counts falls of T1: one of the three."
 pub enum Counting {
@@ -11,10 +12,10 @@ pub enum Counting {
     Counter,
 }
 
-// The two interrupt enables and the in-service flag.
+// The interrupts enabled, the external one and TCNTI, the timer's, and whether one is in service.
 pub struct Interrupts {
     pub external: bool,
-    pub timer: bool,
+    pub tcnti: bool,
     pub service: bool,
 }
 
@@ -33,12 +34,12 @@ pub struct State {
     // bit 7 C, 6 AC, 5 F0, 4 bank BS, 3 always 1, 2 to 0 SP
     pub psw: u8,
     pub counting: Counting,
-    // the counter T, its divider, the timer flag TF, the stored timer request, and the last level of T1
+    // the counter T, its divider, the timer flag TF, the stored timer request, and T1's level in the cycle before
     pub t: u8,
     pub divider: u8,
     pub tf: bool,
     pub request: bool,
-    pub t1: bool,
+    pub last: bool,
     pub f1: bool,
     pub dbf: bool,
     // T0 gives out the clock
@@ -53,7 +54,7 @@ pub struct Count {
     pub divider: u8,
     pub tf: bool,
     pub request: bool,
-    pub t1: bool,
+    pub last: bool,
 }
 
 impl State {
@@ -65,7 +66,20 @@ impl State {
 
     pub const PC_LIMIT: u16 = 4096;
 
-    pub const DIVIDER_LIMIT: u8 = 32;
+    pub const DIVIDER_LIMIT: u16 = 32;
+
+    // The bytes of program memory and of RAM that an 8048, an 8049 and an 8050 have.
+    pub const PROGRAM_8048: usize = 1024;
+
+    pub const PROGRAM_8049: usize = 2048;
+
+    pub const PROGRAM_8050: usize = 4096;
+
+    pub const RAM_8048: usize = 64;
+
+    pub const RAM_8049: usize = 128;
+
+    pub const RAM_8050: usize = 256;
 
     // The state after power-up.
     pub fn power_up() -> Self
@@ -80,13 +94,13 @@ impl State {
             divider: 0,
             tf: false,
             request: false,
-            t1: false,
+            last: false,
             f1: false,
             dbf: false,
             clock: false,
             interrupts: Interrupts {
                 external: false,
-                timer: false,
+                tcnti: false,
                 service: false,
             },
             ports: Ports {
@@ -102,7 +116,9 @@ impl State {
     pub fn is_permitted(self) -> bool
         ensures { λ r. ⌜ r ≡ permitted self ⌝ }
     {
-        (self.pc < Self::PC_LIMIT) & (self.divider < Self::DIVIDER_LIMIT) & (self.psw / 8 % 2 == 1)
+        (self.pc < Self::PC_LIMIT)
+            & ((self.divider as u16) < Self::DIVIDER_LIMIT)
+            & (self.psw / 8 % 2 == 1)
     }
 
     // The changes of a state. Each of the first six builds it anew from all its parts, and the others call one of those: a part that is
@@ -122,7 +138,7 @@ impl State {
             divider: self.divider,
             tf: self.tf,
             request: self.request,
-            t1: self.t1,
+            last: self.last,
             f1: self.f1,
             dbf: self.dbf,
             clock: self.clock,
@@ -146,7 +162,7 @@ impl State {
             divider: self.divider,
             tf: self.tf,
             request: self.request,
-            t1: self.t1,
+            last: self.last,
             f1,
             dbf,
             clock,
@@ -170,7 +186,7 @@ impl State {
             divider: c.divider,
             tf: c.tf,
             request: c.request,
-            t1: c.t1,
+            last: c.last,
             f1: self.f1,
             dbf: self.dbf,
             clock: self.clock,
@@ -193,7 +209,7 @@ impl State {
             divider,
             tf: self.tf,
             request: self.request,
-            t1: self.t1,
+            last: self.last,
             f1: self.f1,
             dbf: self.dbf,
             clock: self.clock,
@@ -216,7 +232,7 @@ impl State {
             divider: self.divider,
             tf: self.tf,
             request: self.request,
-            t1: self.t1,
+            last: self.last,
             f1: self.f1,
             dbf: self.dbf,
             clock: self.clock,
@@ -239,7 +255,7 @@ impl State {
             divider: self.divider,
             tf: self.tf,
             request: self.request,
-            t1: self.t1,
+            last: self.last,
             f1: self.f1,
             dbf: self.dbf,
             clock: self.clock,
@@ -274,7 +290,7 @@ impl State {
             divider: self.divider,
             tf: self.tf,
             request: self.request,
-            t1: self.t1,
+            last: self.last,
         }
     }
 }

@@ -1,9 +1,9 @@
 -- A run over two samples is exactly one step.
 -- Assumes nothing.
-use mathlib.Core.Path.{_≡_, refl, sym, ap, _∙_}
+use mathlib.Core.Path.{_≡_, refl, ap}
 use mathlib.Core.Bool.{Bool, true, false}
 use mathlib.Core.List.{List, [], _∷_}
-use Prim.Native.Nat.{ℕ, zero, suc, pred, _+_, _%_, _≤_}
+use Prim.Native.Nat.{ℕ, _%_, _≤_}
 use native.Mathlib.Nat.{zero-add}
 use native.Mathlib.Omega.{arith}
 use lib.Dec.{eqb}
@@ -13,8 +13,8 @@ use Rattle.isa.specs.Choice.{pick}
 use Rattle.machine.specs.declared.State.{State}
 use Rattle.effects.specs.declared.Event.the-variants.{Quiet}
 use Rattle.effects.specs.declared.Write.the-variants.{Nothing}
-use Rattle.chip.specs.Admission.{standing, admission}
-use Rattle.chip.specs.Run.{Standing, Ended, begun, gone, ended, turned, runOver, runOf}
+use Rattle.chip.specs.Admission.{lentNumber, admission}
+use Rattle.chip.specs.Run.{Ended, begun, runOver, runOf}
 use Rattle.chip.specs.Step.{declined, course, planBy, planOf, stepOf, ramAfter, written}
 use Rattle.chip.specs.declared.Outcome.{Outcome}
 use Rattle.chip.specs.declared.Plan.{Plan}
@@ -28,13 +28,11 @@ use Rattle.mcs48_c.specs.Packed.{packedEvent, packedStep}
 -- A step as a run: it uses a sample for each of its cycles.
 abbrev pub asRun : Outcome → List ℕ → Ended
 asRun o left =
-    record { ran = record { number = o .number; state = o .state; used = o .cycles; cycles = o .cycles; event = o .event }; ram = left }
-
--- One sample is not enough for a step.
-last : (program : List ℕ) (y k : ℕ) (m : Standing) → runOver program (y ∷ []) k m ≡ ended m 0
-unfolding runOver
-last program y zero m = refl
-last program y (suc k) m = refl
+    record {
+      ran = record { number = o .number; state = o .state; used = o .cycles; cycles = o .cycles; event = o .event };
+      ram = left;
+      events = pick (eqb (o .number) 0) (o .event ∷ []) [];
+    }
 
 module _ (program ram : List ℕ) (s : State) (x y : ℕ) where
   abbrev plan : Plan
@@ -51,17 +49,21 @@ module _ (program ram : List ℕ) (s : State) (x y : ℕ) where
 
   -- Refused by 1, 2 or 3.
   refused-plan :
-      (standing (length program) (length ram) s ≡ 0 → ⊥)
-      → plan ≡ record { number = standing (length program) (length ram) s; state = s; event = Quiet; write = Nothing; cycles = 0 }
+      (lentNumber (length program) (length ram) s ≡ 0 → ⊥)
+      → plan ≡ record { number = lentNumber (length program) (length ram) s; state = s; event = Quiet; write = Nothing; cycles = 0 }
   unfolding planBy course declined admission pick
   refused-plan n = simp (ne-eqb _ _ n)
 
   -- The step that a run begins with ends it: accepted, or refused.
-  goes : plan .number ≡ 0 → runOver program (x ∷ y ∷ []) 0 (begun ram s) ≡ asRun step (ramAfter program ram s x y)
+  goes : plan .number ≡ 0 → runOver program (x ∷ y ∷ []) (begun ram s) ≡ asRun step (ramAfter program ram s x y)
   unfolding runOver pick
-  goes n = rw (eq-eqb _ _ n) (last program y (pred (plan .cycles)) (gone (begun ram s) plan) ∙ rw (n, zero-add))
+  goes n = go (eqb (plan .cycles) 1) refl
+    where
+      go : (b : Bool) → eqb (plan .cycles) 1 ≡ b → runOver program (x ∷ y ∷ []) (begun ram s) ≡ asRun step (ramAfter program ram s x y)
+      go true e = rw (n, e, zero-add)
+      go false e = rw (n, e, zero-add)
 
-  halts : (plan .number ≡ 0 → ⊥) → runOver program (x ∷ y ∷ []) 0 (begun ram s) ≡ asRun step (ramAfter program ram s x y)
+  halts : (plan .number ≡ 0 → ⊥) → runOver program (x ∷ y ∷ []) (begun ram s) ≡ asRun step (ramAfter program ram s x y)
   unfolding runOver pick
   halts n =
       let u = unchanged n in
@@ -69,14 +71,14 @@ module _ (program ram : List ℕ) (s : State) (x y : ℕ) where
 
   pub one-step : runOf program ram s (x ∷ y ∷ []) ≡ asRun step (ramAfter program ram s x y)
   unfolding runOf pick written
-  one-step = go (eqb (standing (length program) (length ram) s) 0) (eqb (plan .number) 0) refl refl
+  one-step = go (eqb (lentNumber (length program) (length ram) s) 0) (eqb (plan .number) 0) refl refl
     where
       go :
-          (p q : Bool) → eqb (standing (length program) (length ram) s) 0 ≡ p → eqb (plan .number) 0 ≡ q
+          (p q : Bool) → eqb (lentNumber (length program) (length ram) s) 0 ≡ p → eqb (plan .number) 0 ≡ q
           → runOf program ram s (x ∷ y ∷ []) ≡ asRun step (ramAfter program ram s x y)
       go true true h k = rw h (goes (eqb-true _ _ k))
       go true false h k = rw h (halts (eqb-false _ _ k))
-      go false q h k = rw (h, refused-plan (eqb-false _ _ h))
+      go false q h k = rw (h, refused-plan (eqb-false _ _ h), h)
 
   few : plan .cycles ≤ 2
   few = go (eqb (plan .number) 0) refl

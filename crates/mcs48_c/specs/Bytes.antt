@@ -1,24 +1,18 @@
 -- The machine state as 24 bytes: how a caller in C lends it.
 -- Assumes nothing.
 use Prim.Native.Nat.{ℕ, _+_, _*_, _/_, _%_}
-use mathlib.Core.Bool.{Bool, true, false, _&&_}
+use mathlib.Core.Bool.{Bool, _&&_}
 use mathlib.Core.List.{List, [], _∷_}
 use lib.Dec.{eqb, ltb}
 use lib.ListN.{length}
-use Rattle.isa.specs.Choice.{pick}
+use Rattle.isa.specs.Choice.{pick, oneIf}
 use Rattle.isa.specs.Reading.{byteAt}
 use Rattle.machine.specs.State.{powerUp, withPc}
 use Rattle.machine.specs.declared.Counting.{Counting}
 use Rattle.machine.specs.declared.Counting.the-variants.{Stopped, Timer, Counter}
-use Rattle.machine.specs.declared.Interrupts.{Interrupts}
-use Rattle.machine.specs.declared.Ports.{Ports}
 use Rattle.machine.specs.declared.State.{State}
 
 -- A flag's byte is 0 or 1.
-abbrev pub flagByte : Bool → ℕ
-flagByte false = 0
-flagByte true = 1
-
 abbrev pub isFlag : List ℕ → ℕ → Bool
 isFlag bytes at = ltb (byteAt bytes at) 2
 
@@ -37,10 +31,10 @@ countingOf n = pick (eqb n 0) Stopped (pick (eqb n 1) Timer Counter)
 -- The bytes of a state, 24 of them.
 unfoldable pub bytesOf : State → List ℕ
 bytesOf s =
-    s .a ∷ s .pc % 256 ∷ s .pc / 256 ∷ s .psw ∷ flagByte (s .f1) ∷ flagByte (s .dbf) ∷ s .t ∷ s .divider ∷ countingByte (s .counting)
-    ∷ flagByte (s .tf) ∷ flagByte (s .request) ∷ flagByte (s .interrupts .external) ∷ flagByte (s .interrupts .timer)
-    ∷ flagByte (s .interrupts .service) ∷ flagByte (s .t1) ∷ flagByte (s .clock) ∷ s .ports .p1 ∷ s .ports .p2 ∷ s .ports .bus
-    ∷ flagByte (s .ports .driven) ∷ 0 ∷ 0 ∷ 0 ∷ 0 ∷ []
+    s .a ∷ s .pc % 256 ∷ s .pc / 256 ∷ s .psw ∷ oneIf (s .f1) ∷ oneIf (s .dbf) ∷ s .t ∷ s .divider ∷ countingByte (s .counting)
+    ∷ oneIf (s .tf) ∷ oneIf (s .request) ∷ oneIf (s .interrupts .external) ∷ oneIf (s .interrupts .tcnti)
+    ∷ oneIf (s .interrupts .service) ∷ oneIf (s .last) ∷ oneIf (s .clock) ∷ s .ports .p1 ∷ s .ports .p2 ∷ s .ports .bus
+    ∷ oneIf (s .ports .driven) ∷ 0 ∷ 0 ∷ 0 ∷ 0 ∷ []
 
 -- 24 bytes are those of a state: flags are 0 or 1, the counting is 0, 1 or 2, and bytes 20 to 23 are 0.
 abbrev pub formed : List ℕ → Bool
@@ -60,11 +54,11 @@ stateIn b =
       divider = byteAt b 7;
       tf = flagAt b 9;
       request = flagAt b 10;
-      t1 = flagAt b 14;
+      last = flagAt b 14;
       f1 = flagAt b 4;
       dbf = flagAt b 5;
       clock = flagAt b 15;
-      interrupts = record { external = flagAt b 11; timer = flagAt b 12; service = flagAt b 13 };
+      interrupts = record { external = flagAt b 11; tcnti = flagAt b 12; service = flagAt b 13 };
       ports = record { p1 = byteAt b 16; p2 = byteAt b 17; bus = byteAt b 18; driven = flagAt b 19 };
     }
 

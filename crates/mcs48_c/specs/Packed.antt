@@ -6,10 +6,8 @@ use lib.Dec.{eqb}
 use Rattle.isa.specs.Choice.{pick}
 use Rattle.isa.specs.Numbers.{Answer, given, refused}
 use Rattle.isa.specs.Reading.{Sized, sized, byteAt, nextPc}
-use Rattle.isa.specs.declared.Digit.{Digit}
-use Rattle.isa.specs.declared.Digit.the-variants.{MovdRead, MovdWrite, Orld, Anld}
+use Rattle.effects.specs.Events.{eventAs}
 use Rattle.effects.specs.declared.Event.{Event}
-use Rattle.effects.specs.declared.Event.the-variants.{Quiet, ExternalRead, ExternalWrite, ExpanderMove}
 use Rattle.chip.specs.declared.Outcome.{Outcome}
 use Rattle.listing.specs.Listing.{Shown, shown}
 
@@ -21,18 +19,9 @@ packed b0 b1 b2 b3 b4 = b0 + b1 * 2 ^ 8 + b2 * 2 ^ 16 + b3 * 2 ^ 24 + b4 * 2 ^ 3
 abbrev pub packedRefusal : ℕ → ℕ
 packedRefusal number = packed number 0 0 0 0
 
--- A step: the number, the machine cycles, and the event's kind, address or port, data or digit.
-abbrev pub digitKind : Digit → ℕ
-digitKind MovdRead = 3
-digitKind MovdWrite = 4
-digitKind Orld = 5
-digitKind Anld = 6
-
+-- A step: the number, the machine cycles, and the event's number, its address or port, its data or digit.
 abbrev pub packedEvent : ℕ → ℕ → Event → ℕ
-packedEvent number cycles Quiet = packed number cycles 0 0 0
-packedEvent number cycles (ExternalRead address) = packed number cycles 1 address 0
-packedEvent number cycles (ExternalWrite address d) = packed number cycles 2 address d
-packedEvent number cycles (ExpanderMove op port digit) = packed number cycles (digitKind op) port digit
+packedEvent number cycles e = packed number cycles (eventAs e .number) (eventAs e .place) (eventAs e .value)
 
 abbrev pub packedStep : Outcome → ℕ
 packedStep o = packedEvent (o .number) (o .cycles) (o .event)

@@ -50,7 +50,7 @@ fn read_at(program: &[u8], pc: u16, code: u8) -> u64
 pub extern "C" fn mcs48_read(program: &[u8], address: usize) -> u64
     ensures { λ r. ⌜ r ≡ packedRead (now (program .entry)) address (readOf (now (program .entry)) address) ⌝ }
 {
-    if 4096 < program.len() {
+    if isa::PROGRAM_LIMIT < program.len() {
         return packing::pack_refusal(Refusal::ProgramLength);
     }
     if program.len() <= address {

@@ -1,10 +1,11 @@
 // Answers packed into one 64-bit number.
 use effects::Event;
-use isa::Digit;
+use isa::DigitMove;
 use isa::Refusal;
 ghost use mathlib.Core.Path.{_≡_};
 ghost use Rattle.isa.specs.Numbers.{numberOf};
-ghost use Rattle.mcs48_c.specs.Packed.{digitKind, packed, packedEvent, packedRefusal};
+ghost use Rattle.effects.specs.Events.{moveNumber};
+ghost use Rattle.mcs48_c.specs.Packed.{packed, packedEvent, packedRefusal};
 
 // Bytes 0 to 4 of a number.
 pub fn pack(b0: u8, b1: u8, b2: u8, b3: u8, b4: u8) -> u64
@@ -23,14 +24,14 @@ pub fn pack_refusal(r: Refusal) -> u64
     pack(isa::number(r), 0, 0, 0, 0)
 }
 
-fn digit_kind(op: Digit) -> u8
-    ensures { λ r. ⌜ r ≡ digitKind op ⌝ }
+fn move_number(op: DigitMove) -> u8
+    ensures { λ r. ⌜ r ≡ moveNumber op ⌝ }
 {
     match op {
-        Digit::MovdRead => 3,
-        Digit::MovdWrite => 4,
-        Digit::Orld => 5,
-        Digit::Anld => 6,
+        DigitMove::MovdRead => 3,
+        DigitMove::MovdWrite => 4,
+        DigitMove::Orld => 5,
+        DigitMove::Anld => 6,
     }
 }
 
@@ -41,6 +42,6 @@ pub fn pack_step(number: u8, cycles: u8, event: Event) -> u64
         Event::Quiet => pack(number, cycles, 0, 0, 0),
         Event::ExternalRead(address) => pack(number, cycles, 1, address, 0),
         Event::ExternalWrite(address, d) => pack(number, cycles, 2, address, d),
-        Event::ExpanderMove(op, port, digit) => pack(number, cycles, digit_kind(op), port, digit),
+        Event::ExpanderMove(op, port, digit) => pack(number, cycles, move_number(op), port, digit),
     }
 }

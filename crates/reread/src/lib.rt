@@ -2,7 +2,7 @@
 // (mcs48_read gives the same without calling them.)
 use isa::Decoded;
 use mcs48_c::packing;
-use writer::Written;
+use writer::Encoded;
 ghost use mathlib.Core.Path.{_≡_};
 ghost use Rattle.isa.specs.Reading.{readOf};
 ghost use Rattle.mcs48_c.specs.Packed.{packedRead};
@@ -13,9 +13,9 @@ pub extern "C" fn mcs48_reread(program: &[u8], address: usize) -> u64
 {
     match isa::read(program, address) {
         Decoded::Found(i, n) => match writer::write(i) {
-            Written::One(b) => packing::pack(0, n, b, 0, 0),
-            Written::Two(b, d) => packing::pack(0, n, b, d, 0),
-            Written::Unwritten(r) => packing::pack_refusal(r),
+            Encoded::One(b) => packing::pack(0, n, b, 0, 0),
+            Encoded::Two(b, d) => packing::pack(0, n, b, d, 0),
+            Encoded::Unwritten(r) => packing::pack_refusal(r),
         },
         Decoded::Unread(r) => packing::pack_refusal(r),
     }

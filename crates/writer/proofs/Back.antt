@@ -2,7 +2,7 @@
 -- once more; the sheet is compared with it by computation.
 -- Assumes nothing.
 use mathlib.Core.Path.{_≡_, refl, _∙_}
-use mathlib.Core.Bool.{Bool, true, false, _&&_}
+use mathlib.Core.Bool.{Bool, true, false}
 use mathlib.Core.List.{List, [], _∷_}
 use Prim.Native.Nat.{ℕ, zero-le, _+_, _*_, _/_, _%_, _<_, _≤_}
 use native.Mathlib.Omega.{arith}
@@ -26,8 +26,8 @@ use Rattle.isa.specs.declared.Latch.{Latch}
 use Rattle.isa.specs.declared.Latch.the-variants.{Bus, Port}
 use Rattle.isa.specs.declared.Join.{Join}
 use Rattle.isa.specs.declared.Join.the-variants.{AnlLatch, OrlLatch}
-use Rattle.isa.specs.declared.Digit.{Digit}
-use Rattle.isa.specs.declared.Digit.the-variants.{MovdRead, MovdWrite, Orld, Anld}
+use Rattle.isa.specs.declared.DigitMove.{DigitMove}
+use Rattle.isa.specs.declared.DigitMove.the-variants.{MovdRead, MovdWrite, Orld, Anld}
 use Rattle.isa.specs.declared.Switch.{Switch}
 use Rattle.isa.specs.declared.Switch.the-variants.{EnI, DisI, Ent0Clk, SelMb0, SelMb1, SelRb0, SelRb1, EnTcnti, DisTcnti, StopTcnt, StrtCnt, StrtT}
 use Rattle.isa.specs.declared.Instruction.{Instruction}
@@ -105,7 +105,7 @@ abbrev joinBack : Join → ℕ
 joinBack AnlLatch = 0x98
 joinBack OrlLatch = 0x88
 
-abbrev digitBack : Digit → ℕ
+abbrev digitBack : DigitMove → ℕ
 digitBack MovdRead = 0x08
 digitBack MovdWrite = 0x38
 digitBack Orld = 0x88

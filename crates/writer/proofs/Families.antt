@@ -3,12 +3,12 @@
 -- Assumes nothing.
 use mathlib.Core.Path.{_≡_, refl, sym, _∙_, ap}
 use mathlib.Core.Bool.{Bool, true, false}
-use mathlib.Core.List.{List, [], _∷_}
+use mathlib.Core.List.{[], _∷_}
 use Prim.Native.Nat.{ℕ, suc, zero-le, _+_, _-_, _*_, _/_, _%_, _≤_, _<_}
 use native.Mathlib.Omega.{arith}
 use borrow.Author.Tests.{leb-false, le-leb, lt-leb}
 use Rattle.isa.specs.Choice.{pick, within, listed}
-use Rattle.isa.specs.Numbers.{given, refused}
+use Rattle.isa.specs.Numbers.{given}
 use Rattle.isa.specs.Sheet.{kindOf, entryOf, instructionOf}
 use Rattle.isa.specs.Reading.{Sized, sized, readOf, instructionAt, decodedAt}
 use Rattle.isa.specs.declared.Cell.{Cell}
@@ -24,9 +24,9 @@ use Rattle.isa.specs.declared.Refusal.the-variants.{OperandTooLarge}
 use Rattle.isa.proofs.Entries.{within-true}
 use Rattle.isa.proofs.Everywhere.{between}
 use Rattle.writer.specs.Codes.{codedLow, codedHigh, withSecond, cellCode, sourceCode, latchCode}
-use Rattle.writer.specs.Writing.{Writes, writtenAs, holds, cellHolds, sourceHolds, latchHolds, farHolds}
-use Rattle.writer.specs.declared.Written.{Written}
-use Rattle.writer.specs.declared.Written.the-variants.{One, Two, Unwritten}
+use Rattle.writer.specs.Writing.{Writes, encodedAs, holds, cellHolds, sourceHolds, latchHolds, farHolds}
+use Rattle.writer.specs.declared.Encoded.{Encoded}
+use Rattle.writer.specs.declared.Encoded.the-variants.{One, Two, Unwritten}
 
 -- What the sheet has for the code b and the second byte d.
 abbrev pub known : ℕ → ℕ → Sized
@@ -48,15 +48,15 @@ reads-two b d i k =
 
 -- A code that holds an operand k from low to high, alone (n is 1) or before a second byte d (n is 2); or 23. The sheet has it at each
 -- value from low to high.
-module _ (d n : ℕ) (bytes : ℕ → Written) (reads : (b : ℕ) (i : Instruction) → known b d ≡ sized i n → Writes i (writtenAs (bytes b))) where
+module _ (d n : ℕ) (bytes : ℕ → Encoded) (reads : (b : ℕ) (i : Instruction) → known b d ≡ sized i n → Writes i (encodedAs (bytes b))) where
   operand-writes :
       (code : ℕ → ℕ) (low high : ℕ) (make : ℕ → Instruction) → ((k : ℕ) → within low high k ≡ false → holds (make k) ≡ false)
       → listed (λ k. known (code k) d) (suc high - low) low ≡ listed (λ k. sized (make k) n) (suc high - low) low → (k : ℕ)
-      → Writes (make k) (writtenAs (pick (within low high k) (bytes (code k)) (Unwritten OperandTooLarge)))
+      → Writes (make k) (encodedAs (pick (within low high k) (bytes (code k)) (Unwritten OperandTooLarge)))
   unfolding pick
   operand-writes code low high make outside e k = go (within low high k) refl
     where
-      go : (p : Bool) → within low high k ≡ p → Writes (make k) (writtenAs (pick p (bytes (code k)) (Unwritten OperandTooLarge)))
+      go : (p : Bool) → within low high k ≡ p → Writes (make k) (encodedAs (pick p (bytes (code k)) (Unwritten OperandTooLarge)))
       go true h =
           let l : (low ≤ k) × (k ≤ high) = within-true low high k h in
           reads (code k) (make k)
@@ -77,15 +77,15 @@ module _ (base low high : ℕ) where
   pub low-writes :
       (make : ℕ → Instruction) → ((k : ℕ) → within low high k ≡ false → holds (make k) ≡ false)
       → listed (λ k. known (base + k) 0) (suc high - low) low ≡ listed (λ k. sized (make k) 1) (suc high - low) low
-      → {i : Instruction} {w : Written} {k : ℕ} → i ≡ make k → w ≡ codedLow base low high k → Writes i (writtenAs w)
+      → {i : Instruction} {w : Encoded} {k : ℕ} → i ≡ make k → w ≡ codedLow base low high k → Writes i (encodedAs w)
   low-writes make outside e {k = k} p q =
       rw (p, q) (operand-writes 0 1 (λ b. One b) reads-one (λ k. base + k) low high make outside e k)
 
   pub low-writes-two :
       (make : ℕ → ℕ → Instruction) → ((k d : ℕ) → within low high k ≡ false → holds (make k d) ≡ false)
       → ((d : ℕ) → listed (λ k. known (base + k) d) (suc high - low) low ≡ listed (λ k. sized (make k d) 2) (suc high - low) low)
-      → {i : Instruction} {v w : Written} {k d : ℕ} → i ≡ make k d → v ≡ codedLow base low high k → w ≡ withSecond v d
-      → Writes i (writtenAs w)
+      → {i : Instruction} {v w : Encoded} {k d : ℕ} → i ≡ make k d → v ≡ codedLow base low high k → w ≡ withSecond v d
+      → Writes i (encodedAs w)
   low-writes-two make outside e {k = k} {d} p q r =
       rw (p, r, q, second-choice (within low high k) (base + k) d)
       (operand-writes d 2 (λ b. Two b d) (λ b. reads-two b d) (λ k. base + k) low high (λ k. make k d) (λ k. outside k d) (e d) k)
@@ -94,7 +94,7 @@ module _ (base low high : ℕ) where
 pub high-writes :
     (base : ℕ) (make : ℕ → ℕ → Instruction) → ((k d : ℕ) → within 0 7 k ≡ false → holds (make k d) ≡ false)
     → ((d : ℕ) → listed (λ k. known (base + 32 * k) d) 8 0 ≡ listed (λ k. sized (make k d) 2) 8 0)
-    → {i : Instruction} {v w : Written} {k d : ℕ} → i ≡ make k d → v ≡ codedHigh base k → w ≡ withSecond v d → Writes i (writtenAs w)
+    → {i : Instruction} {v w : Encoded} {k d : ℕ} → i ≡ make k d → v ≡ codedHigh base k → w ≡ withSecond v d → Writes i (encodedAs w)
 high-writes base make outside e {k = k} {d} p q r =
     rw (p, r, q, second-choice (within 0 7 k) (base + 32 * k) d)
     (operand-writes d 2 (λ b. Two b d) (λ b. reads-two b d) (λ k. base + 32 * k) 0 7 (λ k. make k d) (λ k. outside k d) (e d) k)
@@ -103,8 +103,8 @@ high-writes base make outside e {k = k} {d} p q r =
 pub far-writes :
     (base : ℕ) (make : ℕ → Instruction) → ((a : ℕ) → holds (make a) ≡ farHolds a)
     → ((d : ℕ) → listed (λ k. known (base + 32 * k) d) 8 0 ≡ listed (λ k. sized (make (k * 256 + d)) 2) 8 0)
-    → {i : Instruction} {v w : Written} {a : ℕ} → i ≡ make a → v ≡ codedHigh base (a / 256) → w ≡ withSecond v (a % 256)
-    → Writes i (writtenAs w)
+    → {i : Instruction} {v w : Encoded} {a : ℕ} → i ≡ make a → v ≡ codedHigh base (a / 256) → w ≡ withSecond v (a % 256)
+    → Writes i (encodedAs w)
 far-writes base make far e {a = a} p q r =
     let whole : a / 256 * 256 + a % 256 ≡ a = omega arith in
     high-writes base (λ k d. make (k * 256 + d)) (λ k d h. far (k * 256 + d) ∙ too-far k d h) e (p ∙ ap make (sym whole)) q r
@@ -119,7 +119,7 @@ pub cell-writes :
     (base : ℕ) (make : Cell → Instruction) → ((c : Cell) → holds (make c) ≡ cellHolds c)
     → listed (λ k. known (base + 8 + k) 0) 8 0 ≡ listed (λ k. sized (make (Register k)) 1) 8 0
     → listed (λ k. known (base + k) 0) 2 0 ≡ listed (λ k. sized (make (Indirect k)) 1) 2 0
-    → {i : Instruction} {w : Written} {c : Cell} → i ≡ make c → w ≡ cellCode base c → Writes i (writtenAs w)
+    → {i : Instruction} {w : Encoded} {c : Cell} → i ≡ make c → w ≡ cellCode base c → Writes i (encodedAs w)
 cell-writes base make held er ei {c = Register r} p q =
     low-writes (base + 8) 0 7 (λ k. make (Register k)) (λ k h. held (Register k) ∙ h) er p q
 cell-writes base make held er ei {c = Indirect r} p q =
@@ -127,7 +127,7 @@ cell-writes base make held er ei {c = Indirect r} p q =
 
 -- MOV Rr,#data and MOV @Rr,#data.
 pub mov-data-writes :
-    {i : Instruction} {v w : Written} {c : Cell} {d : ℕ} → i ≡ MovData c d → v ≡ cellCode 0xB0 c → w ≡ withSecond v d → Writes i (writtenAs w)
+    {i : Instruction} {v w : Encoded} {c : Cell} {d : ℕ} → i ≡ MovData c d → v ≡ cellCode 0xB0 c → w ≡ withSecond v d → Writes i (encodedAs w)
 unfolding entryOf kindOf pick
 mov-data-writes {c = Register r} = low-writes-two 0xB8 0 7 (λ k d. MovData (Register k) d) (λ k d h. rw h) (λ d. refl)
 mov-data-writes {c = Indirect r} = low-writes-two 0xB0 0 1 (λ k d. MovData (Indirect k) d) (λ k d h. rw h) (λ d. refl)
@@ -138,7 +138,7 @@ pub source-writes :
     → listed (λ k. known (base + 8 + k) 0) 8 0 ≡ listed (λ k. sized (make (FromRegister k)) 1) 8 0
     → listed (λ k. known (base + k) 0) 2 0 ≡ listed (λ k. sized (make (FromIndirect k)) 1) 2 0
     → ((d : ℕ) → known immediate d ≡ sized (make (Immediate d)) 2)
-    → {i : Instruction} {w : Written} {s : Source} → i ≡ make s → w ≡ sourceCode base immediate s → Writes i (writtenAs w)
+    → {i : Instruction} {w : Encoded} {s : Source} → i ≡ make s → w ≡ sourceCode base immediate s → Writes i (encodedAs w)
 source-writes base immediate make held er ei ed {s = FromRegister r} p q =
     low-writes (base + 8) 0 7 (λ k. make (FromRegister k)) (λ k h. held (FromRegister k) ∙ h) er p q
 source-writes base immediate make held er ei ed {s = FromIndirect r} p q =
@@ -149,7 +149,7 @@ source-writes base immediate make held er ei ed {s = Immediate d} p q = rw (p, q
 pub latch-writes :
     (bus base : ℕ) (make : Latch → Instruction) → ((l : Latch) → holds (make l) ≡ latchHolds l)
     → known bus 0 ≡ sized (make Bus) 1 → listed (λ k. known (base + k) 0) 2 1 ≡ listed (λ k. sized (make (Port k)) 1) 2 1
-    → {i : Instruction} {w : Written} {l : Latch} → i ≡ make l → w ≡ latchCode bus base l → Writes i (writtenAs w)
+    → {i : Instruction} {w : Encoded} {l : Latch} → i ≡ make l → w ≡ latchCode bus base l → Writes i (encodedAs w)
 latch-writes bus base make held eb ep {l = Bus} p q = rw (p, q) (reads-one bus (make Bus) eb)
 latch-writes bus base make held eb ep {l = Port n} p q =
     low-writes base 1 2 (λ k. make (Port k)) (λ k h. held (Port k) ∙ h) ep p q
@@ -158,13 +158,13 @@ latch-writes bus base make held eb ep {l = Port n} p q =
 pub logic-writes :
     (base : ℕ) (op : Join) → ((d : ℕ) → known base d ≡ sized (Logic op Bus d) 2)
     → ((d : ℕ) → listed (λ k. known (base + k) d) 2 1 ≡ listed (λ k. sized (Logic op (Port k) d) 2) 2 1)
-    → (l : Latch) {o : Join} {v : Written} → o ≡ op → v ≡ latchCode base base l → (d : ℕ) → Writes (Logic o l d) (writtenAs (withSecond v d))
+    → (l : Latch) {o : Join} {v : Encoded} → o ≡ op → v ≡ latchCode base base l → (d : ℕ) → Writes (Logic o l d) (encodedAs (withSecond v d))
 logic-writes base op eb ep Bus p q d = rw (p, q) (reads-two base d (Logic op Bus d) (eb d))
 logic-writes base op eb ep (Port n) p q d =
     rw p (low-writes-two base 1 2 (λ k d. Logic op (Port k) d) (λ k d h. rw h) ep refl q refl)
 
 -- A conditional jump, ANL and ORL on a latch: the function called gave the code, for any second byte.
 pub second-writes :
-    (make : ℕ → Instruction) (v : Written) {i : Instruction} {w : Written} {d : ℕ} → i ≡ make d
-    → ((d : ℕ) → Writes (make d) (writtenAs (withSecond v d))) → w ≡ withSecond v d → Writes i (writtenAs w)
+    (make : ℕ → Instruction) (v : Encoded) {i : Instruction} {w : Encoded} {d : ℕ} → i ≡ make d
+    → ((d : ℕ) → Writes (make d) (encodedAs (withSecond v d))) → w ≡ withSecond v d → Writes i (encodedAs w)
 second-writes make v {d = d} p h q = rw (p, q) (h d)

@@ -1,6 +1,6 @@
 -- Two answers of the writer that meet its statement are equal; and 23 is given exactly when the code can't hold an operand.
 -- Assumes nothing.
-use mathlib.Core.Path.{_≡_, refl, sym, _∙_, ap}
+use mathlib.Core.Path.{_≡_, sym, _∙_, ap}
 use mathlib.Core.Bool.{true, false}
 use mathlib.Core.List.{List}
 use Prim.Native.Nat.{ℕ}
@@ -10,9 +10,9 @@ use Rattle.isa.proofs.Once.{one-number}
 use Rattle.isa.specs.declared.Instruction.{Instruction}
 use Rattle.isa.specs.Reading.{Bytes}
 use Rattle.writer.specs.Standing.{BytesIn}
-use Rattle.writer.specs.Writing.{Writes, writtenAs, holds}
-use Rattle.writer.specs.declared.Written.{Written}
-use Rattle.writer.specs.declared.Written.the-variants.{One, Two, Unwritten}
+use Rattle.writer.specs.Writing.{Writes, encodedAs, holds}
+use Rattle.writer.specs.declared.Encoded.{Encoded}
+use Rattle.writer.specs.declared.Encoded.the-variants.{One, Two, Unwritten}
 use Rattle.writer.proofs.RoundTrips.{written-back, read-stands}
 
 -- Bytes are given exactly when the code can hold the operands.
@@ -36,7 +36,7 @@ refused-23 i (refused n) sv p out = ap refused (p .0)
 pub never-else : (i : Instruction) (n : ℕ) → Writes i (refused n) → holds i ≡ true → ⊥
 never-else i n p held = let z : _≡_ {A = ℕ} 0 1 = cc (p .1) in omega arith
 
-pub written-as-once : (r s : Written) → writtenAs r ≡ writtenAs s → r ≡ s
+pub written-as-once : (r s : Encoded) → encodedAs r ≡ encodedAs s → r ≡ s
 written-as-once (One b) (One c) e = cc
 written-as-once (One b) (Two c d) e = cc
 written-as-once (One b) (Unwritten r) e = cc
@@ -48,6 +48,6 @@ written-as-once (Unwritten r) (Two b d) e = cc
 written-as-once (Unwritten r) (Unwritten s) e = ap Unwritten (one-number r s (cc))
 
 pub write-once :
-    (i : Instruction) (r s : Written) → BytesIn (writtenAs r) → BytesIn (writtenAs s) → Writes i (writtenAs r) → Writes i (writtenAs s)
+    (i : Instruction) (r s : Encoded) → BytesIn (encodedAs r) → BytesIn (encodedAs s) → Writes i (encodedAs r) → Writes i (encodedAs s)
     → r ≡ s
-write-once i r s br bs p q = written-as-once r s (answer-once i (writtenAs r) (writtenAs s) br bs p q)
+write-once i r s br bs p q = written-as-once r s (answer-once i (encodedAs r) (encodedAs s) br bs p q)

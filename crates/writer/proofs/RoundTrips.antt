@@ -1,17 +1,17 @@
 -- The two round trips (demand 2): "Each instruction read from bytes and written again gives the same bytes, and the reverse."
 -- Assumes nothing.
-use mathlib.Core.Path.{_≡_, refl, _∙_, subst}
-use mathlib.Core.Bool.{Bool, true, false}
+use mathlib.Core.Path.{_≡_, refl, _∙_}
+use mathlib.Core.Bool.{true, false}
 use mathlib.Core.List.{List, [], _∷_}
-use Prim.Native.Nat.{ℕ, suc, _+_, _<_, _≤_}
+use Prim.Native.Nat.{ℕ, _≤_}
 use native.Mathlib.Omega.{arith}
-use lib.Dec.{eqb, ltb}
+use lib.Dec.{eqb}
 use lib.ListN.{length}
 use borrow.Author.Tests.{le-ltb}
 use Rattle.isa.specs.Choice.{pick}
 use Rattle.isa.specs.Numbers.{Answer, given, refused}
 use Rattle.isa.specs.Sheet.{entryOf, instructionOf}
-use Rattle.isa.specs.Reading.{Sized, sized, readOf, instructionAt, decodedAt, nextPc, lacks, byteAt, Bytes}
+use Rattle.isa.specs.Reading.{sized, readOf, instructionAt, decodedAt, nextPc, byteAt, Bytes}
 use Rattle.isa.specs.declared.Instruction.{Instruction}
 use Rattle.isa.proofs.Finding.{Found, alone, paired, found, read-there}
 use Rattle.writer.specs.Standing.{BytesIn, StandsAt, Stands}
@@ -38,7 +38,7 @@ whole i bytes w = go bytes (length bytes) refl (found bytes 0 i (length bytes) (
     go (b ∷ d ∷ x ∷ v) n e (alone h p q j) = absurd (omega arith)
     go (b ∷ d ∷ x ∷ v) n e (paired h p q l j) = absurd (omega arith)
 
--- Written, then read: where bytes that the writer gives for an instruction stand, in any program and at any address, the reader finds
+-- Encoded, then read: where bytes that the writer gives for an instruction stand, in any program and at any address, the reader finds
 -- the instruction, with their number as its length.
 pub write-read :
     (program : List ℕ) (a : ℕ) (i : Instruction) (bytes : List ℕ) → length program ≤ 4096 → Writes i (given bytes)
@@ -59,10 +59,10 @@ written-back i bytes small w = go bytes small (whole i bytes w)
     go v small (one b p q j) = rw (← j) (bytes-back b 0 (small 0) (omega arith) p ∙ rw q)
     go v small (two b d p q j) = rw (← j) (bytes-back b d (small 0) (small 1) p ∙ rw q)
 
--- What is read at an address stands there, and its operands are such as its code can hold.
+-- What is read at an address stands there, as many bytes as the reader says, and its operands are such as its code can hold.
 pub read-stands :
     (program : List ℕ) (a : ℕ) (i : Instruction) (n : ℕ) → Bytes program → readOf program a ≡ given (sized i n)
-    → StandsAt program a (bytesBack i) × (holds i ≡ true)
+    → Stands program a n (given (bytesBack i)) × (holds i ≡ true)
 unfolding pick
 read-stands program a i n small r = go n (found program a i n (read-there program a i n r))
   where
@@ -72,19 +72,19 @@ read-stands program a i n small r = go n (found program a i n (read-there progra
     d : ℕ
     d = byteAt program (nextPc a)
 
-    go : (n : ℕ) → Found program a i n → StandsAt program a (bytesBack i) × (holds i ≡ true)
+    go : (n : ℕ) → Found program a i n → Stands program a n (given (bytesBack i)) × (holds i ≡ true)
     go n (alone h p q j) =
         let back : bytesBack i ≡ b ∷ [] = rw (← j) (bytes-back b 0 (small a) (omega arith) p ∙ rw q) in
-        rw back ((h, refl, tt), rw (← j) (holds-back b 0 (small a) (omega arith)))
+        rw back ((refl, (h, refl, tt)), rw (← j) (holds-back b 0 (small a) (omega arith)))
     go n (paired h p q l j) =
         let back : bytesBack i ≡ b ∷ d ∷ [] = rw (← j) (bytes-back b d (small a) (small (nextPc a)) p ∙ rw q) in
-        rw back ((h, refl, (l, refl, tt)), rw (← j) (holds-back b d (small a) (small (nextPc a))))
+        rw back ((refl, (h, refl, (l, refl, tt))), rw (← j) (holds-back b d (small a) (small (nextPc a))))
 
--- Read, then written: whatever the writer answers for an instruction that is read at an address of a program are bytes, and the very
--- ones that stand there.
+-- Read, then written: whatever the writer answers for an instruction that is read at an address of a program are bytes, as many as the
+-- reader says, and the very ones that stand there.
 pub read-write :
     (program : List ℕ) (a : ℕ) (i : Instruction) (n : ℕ) (answer : Answer (List ℕ)) → Bytes program → BytesIn answer
-    → readOf program a ≡ given (sized i n) → Writes i answer → Stands program a answer
+    → readOf program a ≡ given (sized i n) → Writes i answer → Stands program a n answer
 read-write program a i n (given bytes) small small' r w =
     rw (written-back i bytes small' w) at (read-stands program a i n small r .0)
 read-write program a i n (refused m) small small' r w =

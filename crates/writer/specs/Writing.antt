@@ -18,8 +18,8 @@ use Rattle.isa.specs.declared.Latch.{Latch}
 use Rattle.isa.specs.declared.Latch.the-variants.{Bus, Port}
 use Rattle.isa.specs.declared.Instruction.{Instruction}
 use Rattle.isa.specs.declared.Instruction.the-variants.{Alu, Accumulator, Djnz, Branch, Jmp, Jmpp, Control, MovA, Mov, MovData, MovAPsw, MovPswA, Movp, Movp3, MovxRead, MovxWrite, Xch, Xchd, Cpl, Clr, Logic, In, Outl, Expander, Dec, Inc, Call, Ret, Retr, MovAT, MovTA, Nop}
-use Rattle.writer.specs.declared.Written.{Written}
-use Rattle.writer.specs.declared.Written.the-variants.{One, Two, Unwritten}
+use Rattle.writer.specs.declared.Encoded.{Encoded}
+use Rattle.writer.specs.declared.Encoded.the-variants.{One, Two, Unwritten}
 
 -- What a code can hold: R0 to R7, but @R0 and @R1 only; P1 and P2, and P4 to P7 of the expander; a bit from 0 to 7; a data byte; an
 -- address of 11 bits in JMP and CALL, of 8 in a conditional jump.
@@ -99,7 +99,7 @@ Writes i (given bytes) = readOf bytes 0 ≡ given (sized i (length bytes))
 Writes i (refused n) = (n ≡ 23) × (holds i ≡ false)
 
 -- The number and the values of each of the writer's answers.
-abbrev pub writtenAs : Written → Answer (List ℕ)
-writtenAs (One b) = given (b ∷ [])
-writtenAs (Two b d) = given (b ∷ d ∷ [])
-writtenAs (Unwritten r) = refused (numberOf r)
+abbrev pub encodedAs : Encoded → Answer (List ℕ)
+encodedAs (One b) = given (b ∷ [])
+encodedAs (Two b d) = given (b ∷ d ∷ [])
+encodedAs (Unwritten r) = refused (numberOf r)

@@ -1,7 +1,7 @@
 // The instruction writer: the bytes of an instruction. Its codes stand here and in isa's sheet, and each is proved to be the sheet's.
 use isa::Cell;
 use isa::Condition;
-use isa::Digit;
+use isa::DigitMove;
 use isa::Flag;
 use isa::Instruction;
 use isa::Join;
@@ -17,53 +17,53 @@ ghost use Prim.Native.Nat.{ℕ, _+_, _≤_, _<_};
 ghost use Rattle.isa.specs.Numbers.{given};
 ghost use Rattle.isa.specs.declared.Instruction.the-variants.{Alu, Accumulator, Branch, Control, Cpl, Clr, Logic, Expander};
 ghost use Rattle.writer.specs.Codes.{codedLow, codedHigh, withSecond, cellCode, sourceCode, latchCode};
-ghost use Rattle.writer.specs.Writing.{Writes, writtenAs};
+ghost use Rattle.writer.specs.Writing.{Writes, encodedAs};
 
 // What the writer answers.
-pub enum Written {
+pub enum Encoded {
     One(u8),
     Two(u8, u8),
     Unwritten(Refusal),
 }
 
 // The code `base` with the number k in its low bits, if k is from `low` to `high`.
-fn coded_low(base: u8, low: u8, high: u8, k: u8) -> Written
+fn coded_low(base: u8, low: u8, high: u8, k: u8) -> Encoded
     requires { ⌜ base + high < 256 ⌝ }
     ensures { λ r. ⌜ r ≡ codedLow base low high k ⌝ }
 {
     if k < low {
-        return Written::Unwritten(Refusal::OperandTooLarge);
+        return Encoded::Unwritten(Refusal::OperandTooLarge);
     }
     if high < k {
-        return Written::Unwritten(Refusal::OperandTooLarge);
+        return Encoded::Unwritten(Refusal::OperandTooLarge);
     }
-    Written::One(base + k)
+    Encoded::One(base + k)
 }
 
 // The code `base` with the number k in bits 5-7, if k is at most 7.
-fn coded_high(base: u8, k: u8) -> Written
+fn coded_high(base: u8, k: u8) -> Encoded
     requires { ⌜ base < 32 ⌝ }
     ensures { λ r. ⌜ r ≡ codedHigh base k ⌝ }
 {
     if 7 < k {
-        return Written::Unwritten(Refusal::OperandTooLarge);
+        return Encoded::Unwritten(Refusal::OperandTooLarge);
     }
-    Written::One(base + 32 * k)
+    Encoded::One(base + 32 * k)
 }
 
 // A second byte behind a code.
-fn with_second(w: Written, d: u8) -> Written
+fn with_second(w: Encoded, d: u8) -> Encoded
     ensures { λ r. ⌜ r ≡ withSecond w d ⌝ }
 {
     match w {
-        Written::One(b) => Written::Two(b, d),
-        Written::Two(b, e) => Written::Two(b, e),
-        Written::Unwritten(r) => Written::Unwritten(r),
+        Encoded::One(b) => Encoded::Two(b, d),
+        Encoded::Two(b, e) => Encoded::Two(b, e),
+        Encoded::Unwritten(r) => Encoded::Unwritten(r),
     }
 }
 
 // Rr in the lower half of a row of codes, @Rr in its first two.
-fn cell_code(base: u8, c: Cell) -> Written
+fn cell_code(base: u8, c: Cell) -> Encoded
     requires { ⌜ base + 16 ≤ 256 ⌝ }
     ensures { λ r. ⌜ r ≡ cellCode base c ⌝ }
 {
@@ -73,29 +73,29 @@ fn cell_code(base: u8, c: Cell) -> Written
     }
 }
 
-fn source_code(base: u8, immediate: u8, s: Source) -> Written
+fn source_code(base: u8, immediate: u8, s: Source) -> Encoded
     requires { ⌜ base + 16 ≤ 256 ⌝ }
     ensures { λ r. ⌜ r ≡ sourceCode base immediate s ⌝ }
 {
     match s {
         Source::FromRegister(r) => coded_low(base + 8, 0, 7, r),
         Source::FromIndirect(r) => coded_low(base, 0, 1, r),
-        Source::Immediate(d) => Written::Two(immediate, d),
+        Source::Immediate(d) => Encoded::Two(immediate, d),
     }
 }
 
-fn latch_code(bus: u8, base: u8, l: Latch) -> Written
+fn latch_code(bus: u8, base: u8, l: Latch) -> Encoded
     requires { ⌜ base + 2 < 256 ⌝ }
     ensures { λ r. ⌜ r ≡ latchCode bus base l ⌝ }
 {
     match l {
-        Latch::Bus => Written::One(bus),
+        Latch::Bus => Encoded::One(bus),
         Latch::Port(p) => coded_low(base, 1, 2, p),
     }
 }
 
-fn operation_code(op: Operation, s: Source) -> Written
-    ensures { λ r. ⌜ Writes (Alu op s) (writtenAs r) ⌝ }
+fn operation_code(op: Operation, s: Source) -> Encoded
+    ensures { λ r. ⌜ Writes (Alu op s) (encodedAs r) ⌝ }
 {
     match op {
         Operation::Add => source_code(0x60, 0x03, s),
@@ -124,23 +124,23 @@ fn unary_code(op: Unary) -> u8
 }
 
 // The code of a conditional jump; its address is the second byte.
-fn condition_code(c: Condition) -> Written
-    ensures { λ r. ⌜ ((d : ℕ) → Writes (Branch c d) (writtenAs (withSecond r d))) ⌝ }
+fn condition_code(c: Condition) -> Encoded
+    ensures { λ r. ⌜ ((d : ℕ) → Writes (Branch c d) (encodedAs (withSecond r d))) ⌝ }
 {
     match c {
         Condition::Jb(b) => coded_high(0x12, b),
-        Condition::Jc => Written::One(0xF6),
-        Condition::Jf0 => Written::One(0xB6),
-        Condition::Jf1 => Written::One(0x76),
-        Condition::Jnc => Written::One(0xE6),
-        Condition::Jni => Written::One(0x86),
-        Condition::Jnt0 => Written::One(0x26),
-        Condition::Jnt1 => Written::One(0x46),
-        Condition::Jnz => Written::One(0x96),
-        Condition::Jtf => Written::One(0x16),
-        Condition::Jt0 => Written::One(0x36),
-        Condition::Jt1 => Written::One(0x56),
-        Condition::Jz => Written::One(0xC6),
+        Condition::Jc => Encoded::One(0xF6),
+        Condition::Jf0 => Encoded::One(0xB6),
+        Condition::Jf1 => Encoded::One(0x76),
+        Condition::Jnc => Encoded::One(0xE6),
+        Condition::Jni => Encoded::One(0x86),
+        Condition::Jnt0 => Encoded::One(0x26),
+        Condition::Jnt1 => Encoded::One(0x46),
+        Condition::Jnz => Encoded::One(0x96),
+        Condition::Jtf => Encoded::One(0x16),
+        Condition::Jt0 => Encoded::One(0x36),
+        Condition::Jt1 => Encoded::One(0x56),
+        Condition::Jz => Encoded::One(0xC6),
     }
 }
 
@@ -184,8 +184,8 @@ fn clr_code(f: Flag) -> u8
 }
 
 // The code of ANL and ORL on BUS or a port; the data is the second byte.
-fn logic_code(op: Join, l: Latch) -> Written
-    ensures { λ r. ⌜ ((d : ℕ) → Writes (Logic op l d) (writtenAs (withSecond r d))) ⌝ }
+fn logic_code(op: Join, l: Latch) -> Encoded
+    ensures { λ r. ⌜ ((d : ℕ) → Writes (Logic op l d) (encodedAs (withSecond r d))) ⌝ }
 {
     match op {
         Join::AnlLatch => latch_code(0x98, 0x98, l),
@@ -193,53 +193,53 @@ fn logic_code(op: Join, l: Latch) -> Written
     }
 }
 
-fn digit_code(op: Digit, p: u8) -> Written
-    ensures { λ r. ⌜ Writes (Expander op p) (writtenAs r) ⌝ }
+fn digit_move_code(op: DigitMove, p: u8) -> Encoded
+    ensures { λ r. ⌜ Writes (Expander op p) (encodedAs r) ⌝ }
 {
     match op {
-        Digit::MovdRead => coded_low(0x08, 4, 7, p),
-        Digit::MovdWrite => coded_low(0x38, 4, 7, p),
-        Digit::Orld => coded_low(0x88, 4, 7, p),
-        Digit::Anld => coded_low(0x98, 4, 7, p),
+        DigitMove::MovdRead => coded_low(0x08, 4, 7, p),
+        DigitMove::MovdWrite => coded_low(0x38, 4, 7, p),
+        DigitMove::Orld => coded_low(0x88, 4, 7, p),
+        DigitMove::Anld => coded_low(0x98, 4, 7, p),
     }
 }
 
 // The bytes of an instruction.
-pub fn write(i: Instruction) -> Written
-    ensures { λ r. ⌜ Writes i (writtenAs r) ⌝ }
+pub fn write(i: Instruction) -> Encoded
+    ensures { λ r. ⌜ Writes i (encodedAs r) ⌝ }
 {
     match i {
         Instruction::Alu(op, s) => operation_code(op, s),
-        Instruction::Accumulator(op) => Written::One(unary_code(op)),
+        Instruction::Accumulator(op) => Encoded::One(unary_code(op)),
         Instruction::Djnz(r, d) => with_second(coded_low(0xE8, 0, 7, r), d),
         Instruction::Branch(c, d) => with_second(condition_code(c), d),
         Instruction::Jmp(a) => with_second(coded_high(0x04, (a / 256) as u8), (a % 256) as u8),
-        Instruction::Jmpp => Written::One(0xB3),
-        Instruction::Control(op) => Written::One(switch_code(op)),
+        Instruction::Jmpp => Encoded::One(0xB3),
+        Instruction::Control(op) => Encoded::One(switch_code(op)),
         Instruction::MovA(s) => source_code(0xF0, 0x23, s),
         Instruction::Mov(c) => cell_code(0xA0, c),
         Instruction::MovData(c, d) => with_second(cell_code(0xB0, c), d),
-        Instruction::MovAPsw => Written::One(0xC7),
-        Instruction::MovPswA => Written::One(0xD7),
-        Instruction::Movp => Written::One(0xA3),
-        Instruction::Movp3 => Written::One(0xE3),
+        Instruction::MovAPsw => Encoded::One(0xC7),
+        Instruction::MovPswA => Encoded::One(0xD7),
+        Instruction::Movp => Encoded::One(0xA3),
+        Instruction::Movp3 => Encoded::One(0xE3),
         Instruction::MovxRead(r) => coded_low(0x80, 0, 1, r),
         Instruction::MovxWrite(r) => coded_low(0x90, 0, 1, r),
         Instruction::Xch(c) => cell_code(0x20, c),
         Instruction::Xchd(r) => coded_low(0x30, 0, 1, r),
-        Instruction::Cpl(f) => Written::One(cpl_code(f)),
-        Instruction::Clr(f) => Written::One(clr_code(f)),
+        Instruction::Cpl(f) => Encoded::One(cpl_code(f)),
+        Instruction::Clr(f) => Encoded::One(clr_code(f)),
         Instruction::Logic(op, l, d) => with_second(logic_code(op, l), d),
         Instruction::In(l) => latch_code(0x08, 0x08, l),
         Instruction::Outl(l) => latch_code(0x02, 0x38, l),
-        Instruction::Expander(op, p) => digit_code(op, p),
+        Instruction::Expander(op, p) => digit_move_code(op, p),
         Instruction::Dec(r) => coded_low(0xC8, 0, 7, r),
         Instruction::Inc(c) => cell_code(0x10, c),
         Instruction::Call(a) => with_second(coded_high(0x14, (a / 256) as u8), (a % 256) as u8),
-        Instruction::Ret => Written::One(0x83),
-        Instruction::Retr => Written::One(0x93),
-        Instruction::MovAT => Written::One(0x42),
-        Instruction::MovTA => Written::One(0x62),
-        Instruction::Nop => Written::One(0x00),
+        Instruction::Ret => Encoded::One(0x83),
+        Instruction::Retr => Encoded::One(0x93),
+        Instruction::MovAT => Encoded::One(0x42),
+        Instruction::MovTA => Encoded::One(0x62),
+        Instruction::Nop => Encoded::One(0x00),
     }
 }

@@ -10,13 +10,13 @@ use Rattle.chip.proofs.run.Tie as tie
 not-admitted : tie.Need-returns
 unfolding runOf pick
 not-admitted c =
-    let e = c .before .standing-number .ensures in
+    let e = c .before .lent-number .ensures in
     (rw (← e, ne-eqb _ _ (c .if1 .taken)), rw (← e, ne-eqb _ _ (c .if1 .taken)))
 
 ran : tie.Need-returns-2
 unfolding runOf pick
 ran c =
-    let e = c .before .before .before .before .before .before .before .standing-number .ensures in
+    let e = c .before .before .before .before .before .before .before .lent-number .ensures in
     let z = c .before .before .before .before .before .before .if1 .left in
     let r = c .before .before .run-on .ensures in
     (rw (← e, eq-eqb _ _ z) (r .0), rw (← e, eq-eqb _ _ z) (r .1))

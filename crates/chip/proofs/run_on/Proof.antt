@@ -1,33 +1,46 @@
 -- `chip::run_on` meets its contract. The loop's invariant: the run from here on is the run from the start, and 1, 2 and 3 are not given.
 -- Each turn is a law of Runs or of Laws.
 -- Assumes nothing.
-use Prim.Native.Nat.{ℕ, _+_, _-_, _≤_}
+use Prim.Native.Nat.{ℕ, _-_, _≤_}
 use denote.Ref.{now}
+use mathlib.Core.List.{List, [], _∷_, _++_}
 use mathlib.Core.Path.{_≡_, refl, sym, ap, _∙_}
 use native.Mathlib.Omega.{arith}
-use lib.ListN.{length, getD, drop}
+use lib.ListN.{length, drop}
 use borrow.Author.Needs.{needs}
-use Rattle.chip.specs.Admission.{standing}
-use Rattle.chip.specs.Run.{Standing, Ended, begun, runOver}
+use Rattle.machine.specs.declared.State.{State}
+use Rattle.effects.specs.declared.Event.{Event}
+use Rattle.effects.specs.declared.Event.the-variants.{Quiet}
+use Rattle.chip.specs.Admission.{lentNumber}
+use Rattle.chip.specs.Run.{Progress, Ended, begun, lastFrom, runOver}
 use Rattle.chip.proofs.Laws.{still-stands}
-use Rattle.chip.proofs.Runs.{run-short, spent, went, halted}
+use Rattle.chip.proofs.Runs.{last-more, run-short, spent, went, halted}
 use Rattle.chip.proofs.run_on.Statement.{statement}
 use Rattle.chip.proofs.run_on.Tie as tie
 
+-- How far the run has come: the events of the steps so far are not in the code, which keeps the last.
+record Going (program samples ram₀ : List ℕ) (state₀ : State) (ram : List ℕ) (state : State) (event : Event) (i : ℕ) : Type 0 where
+  same-length : length ram ≡ length ram₀
+  within : i ≤ length samples
+  lent : lentNumber (length program) (length ram) state ≡ 0
+  events : List Event
+  last : event ≡ lastFrom Quiet events
+  same :
+      runOver program (drop i samples) (record { ram = ram; state = state; used = i; cycles = i; events = events })
+      ≡ runOver program samples (begun ram₀ state₀)
+
 abbrev Inv-loop : tie.InvT-loop
-Inv-loop table program ram₀ samples state₀ event₀ i₀ ram state event i =
-    (length ram ≡ length ram₀) × (i ≤ length samples) × (standing (length program) (length ram) state ≡ 0)
-    × (runOver program (drop i samples) 0 (record { ram = ram; state = state; used = i; cycles = i; event = event })
-    ≡ runOver program samples 0 (begun ram₀ state₀))
+Inv-loop table program ram₀ samples state₀ event₀ i₀ ram state event i = Going program samples ram₀ state₀ ram state event i
 
 abbrev μ-loop : tie.MeasureT-loop
 μ-loop table program ram₀ samples state₀ event₀ i₀ ram state event i = length samples - i
 
 loop-holds : tie.Need-loop-holds Inv-loop μ-loop
-loop-holds c = (refl, omega arith, c .before .before .before .pre .1, refl)
+loop-holds c =
+    record { same-length = refl; within = omega arith; lent = c .before .before .before .pre .1; events = []; last = refl; same = refl }
 
 do-step-requires : tie.Need-do-step-requires Inv-loop μ-loop
-do-step-requires c κs = (c .before .before .before .before .before .before .before .before .pre .0, c .before .before .before .before .loop .inv .2)
+do-step-requires c κs = (c .before .before .before .before .before .before .before .before .pre .0, c .before .before .before .before .loop .inv .lent)
 
 -- At the branch that was not taken: the step's cycles are one or two.
 spent-at : (c : tie.Else1 Inv-loop μ-loop) → (1 ≤ c .before .before .before .before .before .do-step .result .cycles) × (c .before .before .before .before .before .do-step .result .cycles ≤ 2)
@@ -36,7 +49,7 @@ spent-at c =
     let l = c .before .before .before .before .before .before .before .before .before .before .loop in
     let d = c .before .before .before .before .before .do-step in
     spent (now (a .program)) (now (a .samples)) (l .i)
-    (record { ram = l .ram; state = l .state; used = l .i; cycles = l .i; event = l .event }) (d .result) (d .last .1 .1 .0)
+    (record { ram = l .ram; state = l .state; used = l .i; cycles = l .i; events = l .inv .events }) (d .result) (d .last .1 .1 .0)
     (d .ensures .0) (d .ensures .1) (c .if1 .left)
 
 refused : tie.Need-returns Inv-loop μ-loop
@@ -46,10 +59,10 @@ refused c =
     let d = c .before .before .before .before .before .do-step in
     let e =
     halted (now (a .program)) (now (a .samples)) (l .i)
-    (record { ram = l .ram; state = l .state; used = l .i; cycles = l .i; event = l .event }) (d .result) (d .last .1 .1 .0)
+    (record { ram = l .ram; state = l .state; used = l .i; cycles = l .i; events = l .inv .events }) (d .result) (d .last .1 .1 .0)
     (d .ensures .0) (d .ensures .1) (c .before .before .before .before .before .before .before .before .before .loop-test .taken) (c .if1 .taken)
     in
-    (ap (λ (r : Ended). r .ran) (sym e ∙ l .inv .3), ap (λ (r : Ended). r .ram) (sym e ∙ l .inv .3))
+    (rw (l .inv .last) (ap (λ (r : Ended). r .ran) (sym e ∙ l .inv .same)), ap (λ (r : Ended). r .ram) (sym e ∙ l .inv .same))
 
 add-i : tie.Need-add-i Inv-loop μ-loop
 add-i c = omega (arith, spent-at (c .before) .1, c .before .before .before .before .before .before .before .before .before .before .loop-test .taken, c .before .before .before .before .before .before .before .before .before .before .before .before .before .before .before .good .1 .1 .1 .1)
@@ -61,14 +74,17 @@ loop-again : tie.Need-loop-again Inv-loop μ-loop
 loop-again c =
     let a = c .before .before .before .before .before .before .before .before .before .before .before .before .before .before .before .args in
     let l = c .before .before .before .before .before .before .before .before .before .before .before .loop in
-    let d = c .before .before .before .before .before .before .do-step in (
-      d .kept .1 .1 .0 ∙ l .inv .0,
-      omega (arith, spent-at (c .before) .1, c .before .before .before .before .before .before .before .before .before .before .loop-test .taken),
-      still-stands (now (a .program)) (l .ram) (l .state) _ _ (d .result) (d .last .1 .1 .0) (d .ensures .0) (d .ensures .1) (c .before .if1 .left) (l .inv .2),
-      went (now (a .program)) (now (a .samples)) (l .i)
-          (record { ram = l .ram; state = l .state; used = l .i; cycles = l .i; event = l .event }) (d .result) (d .last .1 .1 .0)
-          (d .ensures .0) (d .ensures .1) (c .before .before .before .before .before .before .before .before .before .before .loop-test .taken) (c .before .if1 .left) ∙ l .inv .3,
-    )
+    let d = c .before .before .before .before .before .before .do-step in
+    let m : Progress = record { ram = l .ram; state = l .state; used = l .i; cycles = l .i; events = l .inv .events } in
+    let goes = c .before .before .before .before .before .before .before .before .before .before .loop-test .taken in
+    record {
+      same-length = d .kept .1 .1 .0 ∙ l .inv .same-length;
+      within = omega (arith, spent-at (c .before) .1, goes);
+      lent = still-stands (now (a .program)) (l .ram) (l .state) _ _ (d .result) (d .last .1 .1 .0) (d .ensures .0) (d .ensures .1) (c .before .if1 .left) (l .inv .lent);
+      events = l .inv .events ++ (d .result .event ∷ []);
+      last = sym (last-more Quiet (d .result .event) (l .inv .events));
+      same = went (now (a .program)) (now (a .samples)) (l .i) m (d .result) (d .last .1 .1 .0) (d .ensures .0) (d .ensures .1) goes (c .before .if1 .left) ∙ l .inv .same;
+    }
 
 run-out : tie.Need-returns-2 Inv-loop μ-loop
 run-out c =
@@ -76,9 +92,9 @@ run-out c =
     let l = c .before .loop in
     let e =
     run-short (now (a .program)) (now (a .samples)) (l .i)
-    (record { ram = l .ram; state = l .state; used = l .i; cycles = l .i; event = l .event }) (c .loop-test .left)
+    (record { ram = l .ram; state = l .state; used = l .i; cycles = l .i; events = l .inv .events }) (c .loop-test .left)
     in
-    (ap (λ (r : Ended). r .ran) (sym e ∙ l .inv .3), ap (λ (r : Ended). r .ram) (sym e ∙ l .inv .3))
+    (rw (l .inv .last) (ap (λ (r : Ended). r .ran) (sym e ∙ l .inv .same)), ap (λ (r : Ended). r .ram) (sym e ∙ l .inv .same))
 
 pub run-on-spec : {M : Type 1} → statement M
 run-on-spec =

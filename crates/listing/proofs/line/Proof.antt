@@ -1,9 +1,10 @@
 -- `listing::line` meets its contract. A refused call returns before any store; an accepted one copies the line that `show` made, which is not cut, since a line has at most 32 bytes.
 -- Assumes nothing.
 use Rattle.isa.specs.Choice.{pick}
-use mathlib.Core.Path.{_≡_, refl, sym, ap, _∙_}
+use mathlib.Core.Path.{_≡_, refl, ap, _∙_}
 use mathlib.Core.List.{List, _++_}
-use Prim.Native.Nat.{ℕ}
+use Prim.Native.Nat.{ℕ, _<_, _≤_}
+use native.Mathlib.Omega.{arith}
 use lib.ListN.{length, drop}
 use lib.Seq.{take-all}
 use denote.Ref.{now}
@@ -21,11 +22,17 @@ returns c = simp (lt-ltb _ _ (c .if1 .taken)) (refl, refl)
 
 returns-2 : tie.Need-returns-2
 unfolding listedOf lineAfter pick
-returns-2 c = simp (le-ltb _ _ (c .before .if1 .left), lt-ltb _ _ (c .if2 .taken)) (refl, refl)
+returns-2 c =
+    let small : length (now (c .before .before .before .before .args .buffer)) < 32 = omega arith in
+    simp (le-ltb _ _ (c .before .if1 .left), lt-ltb _ _ small) (refl, refl)
 
 returns-3 : tie.Need-returns-3
 unfolding listedOf lineAfter pick
-returns-3 c = simp (le-ltb _ _ (c .before .before .if1 .left), le-ltb _ _ (c .before .if2 .left), le-leb _ _ (c .if3 .taken)) (refl, refl)
+returns-3 c =
+    let start = c .before .before .before .before .before in
+    let roomy : 32 ≤ length (now (start .args .buffer)) = omega arith in
+    let past : length (now (start .args .program)) ≤ start .args .address = omega arith in
+    simp (le-ltb _ _ (c .before .before .if1 .left), le-ltb _ _ roomy, le-leb _ _ past) (refl, refl)
 
 returns-4 : tie.Need-returns-4
 unfolding cut listedOf lineAfter pick

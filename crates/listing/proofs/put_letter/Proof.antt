@@ -1,8 +1,5 @@
 -- `listing::put_letter` meets its contract.
 -- Assumes nothing.
-use Prim.Native.Nat.{_%_}
-use mathlib.Core.Path.{_≡_}
-use native.Mathlib.Omega.{arith}
 use Rattle.isa.specs.Choice.{pick}
 use borrow.Author.Needs.{needs}
 use borrow.Author.Tests.{ne-eqb}
@@ -32,9 +29,7 @@ returns-5 c = rw (c .before .match .keys5) (c .put-address .ensures)
 
 returns-6 : tie.Need-returns-6
 unfolding expand pick
-returns-6 c =
-    let byte : c .before .before .args .d % 256 ≡ c .before .before .args .d = omega arith in
-    rw (c .before .match .keys6, byte) (c .put-address2 .ensures)
+returns-6 c = rw (c .before .before .match .keys6) (rw (c .before .branch-target .ensures) at (c .put-address2 .ensures))
 
 returns-7 : tie.Need-returns-7
 unfolding expand pick
@@ -58,8 +53,7 @@ put-letter-spec =
     (λ c. search needs)
     (λ c. search needs)
     (λ c κs. search needs)
-    (λ c. search needs)
-    (λ c. search needs)
+    (λ c κs. search needs)
     (λ c κs. search needs)
     (λ c κs. search needs)
     returns

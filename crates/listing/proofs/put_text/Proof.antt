@@ -1,8 +1,8 @@
 -- `listing::put_text` meets its contract. The loop's invariant: the line has the first i letters of the text, each as it is shown.
 -- Assumes nothing.
-use mathlib.Core.Path.{_≡_, sym, ap, _∙_}
+use mathlib.Core.Path.{_≡_, sym, _∙_}
 use mathlib.Core.List.{List}
-use Prim.Native.Nat.{ℕ, _+_, _≤_, _<_, _-_}
+use Prim.Native.Nat.{ℕ, _≤_, _<_, _-_}
 use native.Mathlib.Decide.{decLt}
 use native.Mathlib.Numerals.{add-one}
 use native.Mathlib.Omega.{arith}
@@ -10,7 +10,7 @@ use lib.ListN.{length, getD, take, List·getD-eq-default}
 use lib.Seq.{take-all, take-suc}
 use borrow.Author.Needs.{needs}
 use Rattle.listing.specs.Draft.{Adds}
-use Rattle.listing.specs.Text.{expand, expandAll, lettersOf}
+use Rattle.listing.specs.Text.{expandAll, lettersOf}
 use Rattle.listing.proofs.Drafts.{chain, kept}
 use Rattle.listing.proofs.Texts.{snoc, letters-short, letters-end}
 use Rattle.listing.proofs.put_text.Statement.{statement}

@@ -1,7 +1,7 @@
 -- `listing::show` meets its contract. At each `return` the tests that led there say which line it is.
 -- Assumes nothing.
 use Rattle.isa.specs.Choice.{pick}
-use mathlib.Core.Path.{_≡_, refl, sym}
+use mathlib.Core.Path.{refl, sym}
 use mathlib.Core.Logic.{⊎-elim}
 use native.Mathlib.Omega.{arith}
 use borrow.Author.Needs.{needs}

@@ -2,7 +2,6 @@
 -- Assumes nothing.
 use lib.ListN.{length-set}
 use native.Mathlib.Omega.{arith}
-use borrow.Author.Needs.{needs}
 use borrow.Author.Tests.{lt-ltb, le-ltb}
 use Rattle.isa.specs.Choice.{pick}
 use Rattle.mcs48_c.specs.Calls.{totalled}

@@ -1,7 +1,7 @@
 -- `writer::operation_code` meets its contract: each arm is the code that the sheet has.
 -- Assumes nothing.
 use borrow.Author.Needs.{needs}
-use mathlib.Core.Path.{refl, ap}
+use mathlib.Core.Path.{refl}
 use Rattle.isa.specs.Choice.{pick}
 use Rattle.isa.specs.Sheet.{kindOf, entryOf}
 use Rattle.isa.specs.Reading.{readOf, instructionAt, decodedAt}

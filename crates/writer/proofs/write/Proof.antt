@@ -102,7 +102,7 @@ write-spec =
     (λ c. second-writes (λ d. Logic _ _ d) (c .before .logic-code .result) (c .before .before .before .i16 .given .1) (c .before .logic-code .ensures) (c .with-second5 .ensures))
     (λ c. latch-writes 0x08 0x08 (λ l. In l) (λ l. refl) refl refl (c .before .before .i17 .given .1) (c .latch-code .ensures))
     (λ c. latch-writes 0x02 0x38 (λ l. Outl l) (λ l. refl) refl refl (c .before .before .i18 .given .1) (c .latch-code2 .ensures))
-    (λ c. rw (c .before .before .i19 .given .1) (c .digit-code .ensures))
+    (λ c. rw (c .before .before .i19 .given .1) (c .digit-move-code .ensures))
     (λ c. low-writes 0xC8 0 7 (λ k. Dec k) (λ k h. h) refl (c .before .before .i20 .given .1) (c .coded-low5 .ensures))
     (λ c. cell-writes 0x10 (λ c. Inc c) (λ c. refl) refl refl (c .before .before .i21 .given .1) (c .cell-code4 .ensures))
     (λ c. far-writes 0x14 (λ a. Call a) (λ a. refl) (λ d. refl) (c .before .before .before .i22 .given .1) (c .before .coded-high2 .ensures) (c .with-second6 .ensures))

@@ -1,6 +1,5 @@
 -- `effects::memory::wrapped` meets its contract: a number modulo 0 is the number.
 -- Assumes nothing.
-use Prim.Native.Nat.{ℕ}
 use mathlib.Core.Path.{_≡_}
 use native.Mathlib.Nat.{mod-zero}
 use native.Mathlib.Omega.{arith}

@@ -1,7 +1,5 @@
 -- `isa::table::entry_of` meets its contract: the table that it lends is the sheet's.
 -- Assumes nothing.
-use mathlib.Core.Path.{_∙_}
-use native.Mathlib.Omega.{arith}
 use borrow.Author.Needs.{needs}
 use Rattle.isa.proofs.Entries.{entry-held}
 use Rattle.isa.proofs.table.entry_of.Statement.{statement}

@@ -1,7 +1,6 @@
 -- `isa::table::opcodes` meets its contract: the constant is the sheet's table, computed.
 -- Assumes nothing.
 use mathlib.Core.Path.{refl}
-use borrow.Author.Needs.{needs}
 use Rattle.isa.specs.Choice.{pick}
 use Rattle.isa.specs.Sheet.{kindOf, entryOf}
 use Rattle.isa.specs.Table.{packedRows}

@@ -4,11 +4,12 @@ use mathlib.Core.Bool.{Bool, true, false}
 use mathlib.Core.Path.{_≡_, refl}
 use mir.Val.{boolByte}
 use borrow.Author.Needs.{needs}
-use Rattle.mcs48_c.specs.Bytes.{bytesOf, flagByte}
+use Rattle.isa.specs.Choice.{oneIf}
+use Rattle.mcs48_c.specs.Bytes.{bytesOf}
 use Rattle.mcs48_c.proofs.bytes.bytes_of.Statement.{statement}
 use Rattle.mcs48_c.proofs.bytes.bytes_of.Tie as tie
 
-cast : (b : Bool) → boolByte b ≡ flagByte b
+cast : (b : Bool) → boolByte b ≡ oneIf b
 cast false = refl
 cast true = refl
 

@@ -20,4 +20,4 @@ pack-step-spec =
     (λ c. rw (c .before .enum-told .given .1) (c .pack .ensures))
     (λ c. rw (c .before .before .event .given .1) (c .pack2 .ensures))
     (λ c. rw (c .before .before .event2 .given .1) (c .pack3 .ensures))
-    (λ c. rw (c .before .before .before .event3 .given .1, ← (c .before .digit-kind .ensures)) (c .pack4 .ensures)))
+    (λ c. rw (c .before .before .before .event3 .given .1, ← (c .before .move-number .ensures)) (c .pack4 .ensures)))

@@ -1,19 +1,19 @@
--- `writer::digit_code` meets its contract: each arm is the code that the sheet has.
+-- `writer::digit_move_code` meets its contract: each arm is the code that the sheet has.
 -- Assumes nothing.
 use borrow.Author.Needs.{needs}
 use mathlib.Core.Path.{refl}
 use Rattle.isa.specs.Choice.{pick}
 use Rattle.isa.specs.Sheet.{kindOf, entryOf}
 use Rattle.isa.specs.Reading.{readOf, instructionAt, decodedAt}
-use Rattle.isa.specs.declared.Digit.the-variants.{MovdRead, MovdWrite, Orld, Anld}
+use Rattle.isa.specs.declared.DigitMove.the-variants.{MovdRead, MovdWrite, Orld, Anld}
 use Rattle.isa.specs.declared.Instruction.the-variants.{Expander}
 use Rattle.writer.proofs.Families.{low-writes}
-use Rattle.writer.proofs.digit_code.Statement.{statement}
-use Rattle.writer.proofs.digit_code.Tie as tie
+use Rattle.writer.proofs.digit_move_code.Statement.{statement}
+use Rattle.writer.proofs.digit_move_code.Tie as tie
 
-pub digit-code-spec : {M : Type 1} → statement M
+pub digit-move-code-spec : {M : Type 1} → statement M
 unfolding readOf instructionAt decodedAt entryOf kindOf pick
-digit-code-spec =
+digit-move-code-spec =
     tie.close
     (tie.spec
     (λ c. search needs)

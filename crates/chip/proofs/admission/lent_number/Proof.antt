@@ -1,14 +1,14 @@
--- `chip::admission::standing_number` meets its contract.
+-- `chip::admission::lent_number` meets its contract.
 -- Assumes nothing.
-use Rattle.chip.specs.Admission.{standing}
+use Rattle.chip.specs.Admission.{lentNumber}
 use Rattle.isa.specs.Choice.{pick}
 use borrow.Author.Needs.{needs}
-use Rattle.chip.proofs.admission.standing_number.Statement.{statement}
-use Rattle.chip.proofs.admission.standing_number.Tie as tie
+use Rattle.chip.proofs.admission.lent_number.Statement.{statement}
+use Rattle.chip.proofs.admission.lent_number.Tie as tie
 
-pub standing-number-spec : {M : Type 1} → statement M
-unfolding standing pick
-standing-number-spec =
+pub lent-number-spec : {M : Type 1} → statement M
+unfolding lentNumber pick
+lent-number-spec =
     tie.close
     (tie.spec
     (λ c κs. search needs)

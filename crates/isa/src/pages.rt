@@ -1,0 +1,35 @@
+// Where a conditional jump goes and where a table byte stands: in the 256-byte page of the instruction. `base` is the address of its first
+// byte.
+ghost use mathlib.Core.Path.{_≡_};
+ghost use Rattle.isa.specs.Pages.{branchTarget, inPage, jmppAddress, movp3Address, movpAddress};
+
+// The address in the page of `of` whose low 8 bits are `d`.
+pub fn in_page(of: u16, d: u8) -> u16
+    ensures { λ r. ⌜ r ≡ inPage of d ⌝ }
+{
+    of / 256 * 256 + d as u16
+}
+
+pub fn branch_target(base: u16, d: u8) -> u16
+    ensures { λ r. ⌜ r ≡ branchTarget base d ⌝ }
+{
+    in_page(base, d)
+}
+
+pub fn movp_address(base: u16, a: u8) -> u16
+    ensures { λ r. ⌜ r ≡ movpAddress base a ⌝ }
+{
+    in_page(base, a)
+}
+
+pub fn jmpp_address(base: u16, a: u8) -> u16
+    ensures { λ r. ⌜ r ≡ jmppAddress base a ⌝ }
+{
+    in_page(base, a)
+}
+
+pub fn movp3_address(base: u16, a: u8) -> u16
+    ensures { λ r. ⌜ r ≡ movp3Address base a ⌝ }
+{
+    base / 2048 * 2048 + 0x300 + a as u16
+}

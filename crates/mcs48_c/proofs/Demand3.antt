@@ -1,0 +1,332 @@
+-- The third demand for a program in C, in the bytes of the state: of a call of mcs48_run, and of calls of mcs48_step one after the other.
+-- The bytes that a call leaves are those of the state that the chip's step or run leaves, so that the chip's theorems hold of them.
+-- Assumes nothing.
+use Prim.Native.Nat.{ℕ, _+_, _/_, _%_, _≤_, _<_}
+use mathlib.Core.Bool.{Bool, true, false, false≢true}
+use mathlib.Core.List.{List}
+use mathlib.Core.Logic.{_⊎_, inl, inr, ⊎-elim}
+use mathlib.Core.Path.{_≡_, refl, sym, ap, _∙_}
+use native.Mathlib.Omega.{arith}
+use lib.Dec.{eqb}
+use lib.ListN.{length}
+use borrow.Author.Tests.{eqb-true, eqb-false, eq-eqb, ne-eqb}
+use Rattle.isa.specs.Choice.{pick, oneIf}
+use Rattle.isa.specs.Reading.{byteAt}
+use Rattle.machine.specs.Pins.{intPin, isLow}
+use Rattle.machine.specs.State.{permitted}
+use Rattle.machine.specs.declared.State.{State}
+use Rattle.chip.specs.Admission.{lentNumber}
+use Rattle.chip.specs.History.{planAt, after, Steps, cycle, Undisturbed, AllUndisturbed, JustStarted, CallTo7, History, StepWith, upTo, HistoryOf, overflowCycle, Asked, next}
+use Rattle.chip.specs.History.{none as no-steps, more as one-more}
+use Rattle.chip.specs.Run.{Progress, Ended, begun, ended}
+use Rattle.chip.specs.Step.{stepOf}
+use Rattle.chip.specs.declared.Outcome.{Outcome}
+use Rattle.chip.proofs.Answering.{step-enabled, left-tf, left-request, call-law, within-3}
+use Rattle.chip.proofs.Cycles.{Running, at-start}
+use Rattle.chip.proofs.Demand3.{count-after, tf-left, request-left, run-count, called-in-time}
+use Rattle.chip.proofs.Exactly.{allowed, lent-refuses}
+use Rattle.chip.proofs.Linking.{sample-a-cycle}
+use Rattle.chip.proofs.Runs.{run-short}
+use Rattle.mcs48_c.specs.Bytes.{countingOf, bytesOf, formed, stateIn, stateOf, holding}
+use Rattle.mcs48_c.specs.Calls.{stepFrom, runFrom, afterStep, afterRun}
+use Rattle.mcs48_c.specs.Stepping.{Lent, stepLeaves, Stepped, none, more, UndisturbedCalls, JustStartedBytes, CalledBytes}
+use Rattle.mcs48_c.proofs.States.{state-back}
+
+-- ---- bytes that stand for a permitted state
+-- They are 24, and that state's own.
+permitted-bytes : (bytes : List ℕ) → permitted (stateOf bytes) ≡ true → (eqb (length bytes) 24 ≡ true) × (stateOf bytes ≡ stateIn bytes)
+unfolding stateOf pick
+permitted-bytes bytes h = go (eqb (length bytes) 24) (formed bytes) refl refl h
+  where
+    go :
+        (x y : Bool) → eqb (length bytes) 24 ≡ x → formed bytes ≡ y → permitted (stateOf bytes) ≡ true
+        → (eqb (length bytes) 24 ≡ true) × (stateOf bytes ≡ stateIn bytes)
+    go true true e f p = (e, rw (e, f))
+    go true false e f p = absurd (false≢true (rw (e, f) at p))
+    go false y e f p = absurd (false≢true (rw e at p))
+
+-- A state that is written over them is theirs then.
+held : (bytes : List ℕ) (s : State) → permitted (stateOf bytes) ≡ true → holding bytes s ≡ bytesOf s
+unfolding holding pick
+held bytes s h = rw (permitted-bytes bytes h .0)
+
+started-state : (c : ℕ) (bytes : List ℕ) → permitted (stateOf bytes) ≡ true → JustStartedBytes c bytes → JustStarted c (stateOf bytes)
+unfolding countingOf pick
+started-state c bytes h j =
+    rw (permitted-bytes bytes h .1) (record { counting = rw (j .counting); t = j .t; divider = j .divider })
+
+module _ (program ram : List ℕ) (bytes : List ℕ) (first second : ℕ) where
+  -- An accepted step began with a permitted state.
+  accepted-lent : stepOf program ram (stateOf bytes) first second .number ≡ 0 → lentNumber (length program) (length ram) (stateOf bytes) ≡ 0
+  accepted-lent a = go (eqb (lentNumber (length program) (length ram) (stateOf bytes)) 0) refl
+    where
+      go :
+          (b : Bool) → eqb (lentNumber (length program) (length ram) (stateOf bytes)) 0 ≡ b
+          → lentNumber (length program) (length ram) (stateOf bytes) ≡ 0
+      go true e = eqb-true _ _ e
+      go false e = sym (ap (λ (o : Outcome). o .number) (lent-refuses program ram (stateOf bytes) first second (eqb-false _ _ e) .0)) ∙ a
+
+  -- The bytes that it leaves are those of the state that it leaves.
+  step-bytes :
+      stepFrom program ram bytes first second .number ≡ 0
+      → afterStep bytes (stepFrom program ram bytes first second) ≡ bytesOf (stepFrom program ram bytes first second .state)
+  unfolding pick
+  step-bytes a =
+      rw (eq-eqb _ _ a) (held bytes _ (allowed program ram (stateOf bytes) first second (accepted-lent a) .state-permitted))
+
+-- ---- mcs48_run
+module _ (program ram bytes samples : List ℕ) (lent : lentNumber (length program) (length ram) (stateOf bytes) ≡ 0) where
+  abbrev ran : Ended
+  ran = runFrom program ram bytes samples
+
+  -- The bytes that the call leaves.
+  abbrev left : List ℕ
+  left = afterRun bytes (ran .ran)
+
+  stands : permitted (stateOf bytes) ≡ true
+  stands = allowed program ram (stateOf bytes) 0 0 lent .state-permitted
+
+  -- Where a step was done they are those of the run's state, and else as they were, the run's state being theirs.
+  run-bytes : (ran .ran .used ≡ 0 → ⊥) → left ≡ bytesOf (ran .ran .state)
+  unfolding pick
+  run-bytes n = rw (ne-eqb _ _ n) (held bytes _ stands)
+
+  no-bytes : ran .ran .used ≡ 0 → left ≡ bytes
+  unfolding pick
+  no-bytes e = rw (eq-eqb _ _ e)
+
+  module _ (c : ℕ) (small : c < 256) (started : JustStartedBytes c bytes) where
+    -- "After n more cycles the counter holds c plus the whole part of n/32, modulo 256": byte 6, the cycles being those of the totals.
+    pub c-run-count :
+        (h : HistoryOf program ram (stateOf bytes) samples ran) → AllUndisturbed (h .steps)
+        → byteAt left 6 ≡ (c + ran .ran .cycles / 32) % 256
+    unfolding bytesOf
+    c-run-count h u = go (eqb (ran .ran .used) 0) refl
+      where
+        none-spent : ran .ran .used ≡ 0 → ran .ran .cycles ≡ 0
+        none-spent e = ap (λ (x : Ended). x .ran .cycles) (h .is) ∙ sym (h .used) ∙ sym (ap (λ (x : Ended). x .ran .used) (h .is)) ∙ e
+
+        go : (b : Bool) → eqb (ran .ran .used) 0 ≡ b → byteAt left 6 ≡ (c + ran .ran .cycles / 32) % 256
+        go true e =
+            let z : ran .ran .cycles ≡ 0 = none-spent (eqb-true _ _ e) in
+            ap (λ (l : List ℕ). byteAt l 6) (no-bytes (eqb-true _ _ e)) ∙ started .t ∙ rw z (omega arith)
+        go false e =
+            ap (λ (l : List ℕ). byteAt l 6) (run-bytes (eqb-false _ _ e))
+            ∙ run-count c small (started-state c bytes stands started) samples h u
+
+    -- A run that ends with the step of the first overflow leaves TF set, in byte 9, and, if the timer interrupt was enabled in that cycle, a
+    -- request, in byte 10.
+    module _ (p : History program ram (stateOf bytes)) (is : ran ≡ ended (p .end) (ran .ran .number)) (u : AllUndisturbed (p .steps))
+        (o : StepWith (overflowCycle c) p) (ends : upTo o .end ≡ p .end) where
+      some-used : ran .ran .used ≡ 0 → ⊥
+      some-used z =
+          let e : p .end .used ≡ 0 = sym (ap (λ (x : Ended). x .ran .used) is) ∙ z in
+          let s : upTo o .end .cycles ≡ p .end .cycles = ap (λ (k : Progress). k .cycles) ends in
+          let w = sample-a-cycle (p .steps) in
+          omega (arith, e, s, w, o .starts, o .ends)
+
+      left-is : left ≡ bytesOf (upTo o .end .state)
+      left-is =
+          run-bytes some-used
+          ∙ ap bytesOf (ap (λ (x : Ended). x .ran .state) is ∙ sym (ap (λ (k : Progress). k .state) ends))
+
+      pub c-run-tf : byteAt left 9 ≡ 1
+      unfolding bytesOf
+      c-run-tf =
+          ap (λ (l : List ℕ). byteAt l 9) left-is
+          ∙ ap oneIf (tf-left c small (started-state c bytes stands started) p u o)
+
+      pub c-run-request : cycle (p .steps) (overflowCycle c) .enabled ≡ true → byteAt left 10 ≡ 1
+      unfolding bytesOf
+      c-run-request on =
+          ap (λ (l : List ℕ). byteAt l 10) left-is
+          ∙ ap oneIf (request-left c small (started-state c bytes stands started) p u o on)
+
+    -- Where all is met that the demand asks, a run whose samples end with the next step leaves the bytes of the call to location 7, and has
+    -- spent at most 3 cycles after the overflow.
+    module _ (q : Asked program ram (stateOf bytes) samples c) (last : length samples ≤ next q .end .used + 1) where
+      there : ran ≡ ended (next q .end) 0
+      there =
+          called-in-time c small (started-state c bytes stands started) lent q .through
+          ∙ run-short program samples (next q .end .used) (next q .end) last
+
+      some-spent : ran .ran .used ≡ 0 → ⊥
+      some-spent z =
+          let e : next q .end .used ≡ 0 = sym (ap (λ (x : Ended). x .ran .used) there) ∙ z in
+          let two = called-in-time c small (started-state c bytes stands started) lent q .calls .cycles in
+          omega (arith, e, two)
+
+      pub c-run-called : CalledBytes left
+      unfolding bytesOf
+      c-run-called =
+          let bytes-are : left ≡ bytesOf (next q .end .state) =
+          run-bytes some-spent ∙ ap (λ (x : Ended). bytesOf (x .ran .state)) there
+          in
+          let calls = called-in-time c small (started-state c bytes stands started) lent q .calls in
+          rw bytes-are
+          (record {
+            pc-low = ap (λ (pc : ℕ). pc % 256) (calls .pc);
+            pc-high = ap (λ (pc : ℕ). pc / 256) (calls .pc);
+            request = ap oneIf (calls .request);
+            service = ap oneIf (calls .service);
+          })
+
+      pub c-run-soon : ran .ran .cycles ≤ overflowCycle c + 3
+      c-run-soon = rw there (called-in-time c small (started-state c bytes stands started) lent q .soon)
+
+-- ---- mcs48_step, call after call
+-- The calls as a history of the chip.
+record Follows {program : List ℕ} {b k : Lent} {n : ℕ} (h : Stepped program b k n) : Type 0 where
+  end : Progress
+  steps : Steps program (b .ram) (stateOf (b .bytes)) end
+  ram : end .ram ≡ k .ram
+  state : end .state ≡ stateOf (k .bytes)
+  cycles : end .cycles ≡ n
+  undisturbed : UndisturbedCalls h → AllUndisturbed steps
+
+module _ {program : List ℕ} {b : Lent} where
+  -- A call as a step of that history.
+  next-fine :
+      {k : Lent} {n : ℕ} (h : Stepped program b k n) (f : Follows h) (first second : ℕ)
+      → stepFrom program (k .ram) (k .bytes) first second .number ≡ 0 → planAt program (f .end) first second .number ≡ 0
+  next-fine h f first second a = rw (f .ram, f .state) a
+
+  follow-more :
+      {k : Lent} {n : ℕ} (first second : ℕ) (h : Stepped program b k n) (a : stepFrom program (k .ram) (k .bytes) first second .number ≡ 0)
+      → Follows h → Follows (more first second h a)
+  follow-more {k} first second h a f =
+      record {
+        end = after program (f .end) first second;
+        steps = one-more first second (f .steps) (next-fine h f first second a);
+        ram = rw (f .ram, f .state);
+        state =
+            rw (f .ram, f .state)
+            (sym (ap stateOf (step-bytes program (k .ram) (k .bytes) first second a) ∙ state-back _));
+        cycles = rw (f .ram, f .state, f .cycles);
+        undisturbed = λ u. (f .undisturbed (u .0), rw (f .state) (u .1));
+      }
+
+  follows : {k : Lent} {n : ℕ} (h : Stepped program b k n) → Follows h
+  follows none = record { end = begun (b .ram) (stateOf (b .bytes)); steps = no-steps; ram = refl; state = refl; cycles = refl; undisturbed = λ u. tt }
+  follows (more first second h a) = follow-more first second h a (follows h)
+
+  -- The bytes that a call leaves.
+  left-bytes :
+      {k : Lent} {n : ℕ} (first second : ℕ) (h : Stepped program b k n) (a : stepFrom program (k .ram) (k .bytes) first second .number ≡ 0)
+      → stepLeaves program k first second .bytes ≡ bytesOf (follows (more first second h a) .end .state)
+  left-bytes {k} first second h a =
+      let left : stepLeaves program k first second .bytes ≡ bytesOf (stepFrom program (k .ram) (k .bytes) first second .state) =
+      step-bytes program (k .ram) (k .bytes) first second a
+      in
+      left ∙ ap bytesOf (sym (follows (more first second h a) .state ∙ ap stateOf left ∙ state-back _))
+
+one-true : (x : Bool) → oneIf x ≡ 1 → x ≡ true
+one-true true e = refl
+one-true false e = absurd (omega arith)
+
+zero-false : (x : Bool) → oneIf x ≡ 0 → x ≡ false
+zero-false true e = absurd (omega arith)
+zero-false false e = refl
+
+module _ (program : List ℕ) (b : Lent) (lent : lentNumber (length program) (length (b .ram)) (stateOf (b .bytes)) ≡ 0) (c : ℕ) (small : c < 256)
+    (started : JustStartedBytes c (b .bytes)) where
+  start : JustStarted c (stateOf (b .bytes))
+  start = started-state c (b .bytes) (allowed program (b .ram) (stateOf (b .bytes)) 0 0 lent .state-permitted) started
+
+  -- After any calls: T, in byte 6.
+  pub c-steps-count : {k : Lent} {n : ℕ} (h : Stepped program b k n) → UndisturbedCalls h → byteAt (k .bytes) 6 ≡ (c + n / 32) % 256
+  unfolding bytesOf
+  c-steps-count none u = started .t ∙ omega arith
+  c-steps-count (more first second h a) u =
+      let f = follows (more first second h a) in
+      ap (λ (l : List ℕ). byteAt l 6) (left-bytes first second h a)
+      ∙ count-after c small start (record { end = f .end; steps = f .steps }) (f .undisturbed u)
+      ∙ ap (λ (m : ℕ). (c + m / 32) % 256) (f .cycles)
+
+  -- The call with the first overflow,
+  module _ {k : Lent} {n : ℕ} (first second : ℕ) (h : Stepped program b k n) (a : stepFrom program (k .ram) (k .bytes) first second .number ≡ 0)
+      (u : UndisturbedCalls (more first second h a)) (starts : n < overflowCycle c)
+      (ends : overflowCycle c ≤ n + stepFrom program (k .ram) (k .bytes) first second .cycles) where
+    abbrev overflowed : Lent
+    overflowed = stepLeaves program k first second
+
+    from : Running c 0 (stateOf (b .bytes))
+    from = at-start c (stateOf (b .bytes)) small start
+
+    fine : planAt program (follows h .end) first second .number ≡ 0
+    fine = next-fine h (follows h) first second a
+
+    begins : follows h .end .cycles < overflowCycle c
+    begins = rw (follows h .cycles) starts
+
+    reaches : overflowCycle c ≤ follows h .end .cycles + planAt program (follows h .end) first second .cycles
+    reaches = rw (follows h .cycles, follows h .ram, follows h .state) ends
+
+    calm : AllUndisturbed (one-more first second (follows h .steps) fine)
+    calm = (follows h .undisturbed (u .0), rw (follows h .state) (u .1))
+
+    byte : (i : ℕ) → byteAt (overflowed .bytes) i ≡ byteAt (bytesOf (after program (follows h .end) first second .state)) i
+    unfolding follows follow-more
+    byte i = ap (λ (l : List ℕ). byteAt l i) (left-bytes first second h a)
+
+    -- leaves TF set, in byte 9,
+    pub c-steps-tf : byteAt (overflowed .bytes) 9 ≡ 1
+    unfolding bytesOf follows follow-more
+    c-steps-tf = byte 9 ∙ ap oneIf (left-tf c small first second (follows h .steps) fine calm from begins reaches)
+
+    -- and, if the timer interrupt is enabled after it, byte 12,
+    module _ (on : byteAt (overflowed .bytes) 12 ≡ 1) where
+      enabled : cycle (one-more first second (follows h .steps) fine) (overflowCycle c) .enabled ≡ true
+      unfolding bytesOf follows follow-more
+      enabled =
+          step-enabled first second (follows h .steps) fine (overflowCycle c) begins ∙ one-true _ (sym (byte 12) ∙ on)
+
+      -- a request, in byte 10.
+      pub c-steps-request : byteAt (overflowed .bytes) 10 ≡ 1
+      unfolding bytesOf follows follow-more
+      c-steps-request = byte 10 ∙ ap oneIf (left-request c small first second (follows h .steps) fine calm from begins reaches enabled)
+
+      -- If then no interrupt is in service, byte 13, and the external one is disabled, byte 11, or its pin high, the next call leaves the bytes
+      -- of the call to location 7, at most 3 cycles after the overflow.
+      module _ (first' second' : ℕ) (a' : stepFrom program (overflowed .ram) (overflowed .bytes) first' second' .number ≡ 0)
+          (u' : Undisturbed program (stateOf (overflowed .bytes)) first') (idle : byteAt (overflowed .bytes) 13 ≡ 0)
+          (off : (byteAt (overflowed .bytes) 11 ≡ 0) ⊎ (isLow intPin first' ≡ false)) where
+        fine' : planAt program (after program (follows h .end) first second) first' second' .number ≡ 0
+        unfolding follows follow-more
+        fine' = next-fine (more first second h a) (follows (more first second h a)) first' second' a'
+
+        calm' : AllUndisturbed (one-more first' second' (one-more first second (follows h .steps) fine) fine')
+        unfolding follows follow-more
+        calm' = (calm, rw (follows (more first second h a) .state) u')
+
+        unserved : after program (follows h .end) first second .state .interrupts .service ≡ false
+        unfolding bytesOf follows follow-more
+        unserved = zero-false _ (sym (byte 13) ∙ idle)
+
+        quiet : (after program (follows h .end) first second .state .interrupts .external ≡ false) ⊎ (isLow intPin first' ≡ false)
+        unfolding bytesOf follows follow-more
+        quiet = ⊎-elim (λ e. inl (zero-false _ (sym (byte 11) ∙ e))) (λ e. inr e) off
+
+        call : CallTo7 program (after program (follows h .end) first second) first' second'
+        unfolding follows follow-more
+        call = call-law c small from (follows h .steps) first second fine begins reaches enabled first' second' fine' calm' unserved quiet
+
+        pub c-steps-called : CalledBytes (stepLeaves program overflowed first' second' .bytes)
+        unfolding bytesOf follows follow-more
+        c-steps-called =
+            rw (left-bytes first' second' (more first second h a) a')
+            (record {
+              pc-low = ap (λ (pc : ℕ). pc % 256) (call .pc);
+              pc-high = ap (λ (pc : ℕ). pc / 256) (call .pc);
+              request = ap oneIf (call .request);
+              service = ap oneIf (call .service);
+            })
+
+        pub c-steps-soon :
+            n + stepFrom program (k .ram) (k .bytes) first second .cycles
+            + stepFrom program (overflowed .ram) (overflowed .bytes) first' second' .cycles ≤ overflowCycle c + 3
+        unfolding follows follow-more
+        c-steps-soon =
+            let w = within-3 c small from (follows h .steps) first second fine begins reaches enabled first' second' fine' calm' unserved quiet in
+            let e = follows (more first' second' (more first second h a) a') .cycles in
+            rw e at w

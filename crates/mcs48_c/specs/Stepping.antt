@@ -1,0 +1,49 @@
+-- The third demand for a program in C: calls of mcs48_step one after the other, and the bytes that tell of the counter and the call.
+-- Assumes nothing.
+use Prim.Native.Nat.{ℕ, _+_}
+use mathlib.Core.List.{List}
+use mathlib.Core.Path.{_≡_}
+use Rattle.isa.specs.Reading.{byteAt}
+use Rattle.chip.specs.History.{Undisturbed}
+use Rattle.chip.specs.Step.{ramAfter}
+use Rattle.mcs48_c.specs.Bytes.{stateOf}
+use Rattle.mcs48_c.specs.Calls.{stepFrom, afterStep}
+
+-- The buffers of the RAM and of the state.
+pub record Lent : Type 0 where
+  pub ram : List ℕ
+  pub bytes : List ℕ
+
+-- What a call of mcs48_step leaves in them.
+abbrev pub stepLeaves : List ℕ → Lent → ℕ → ℕ → Lent
+stepLeaves program k first second =
+    record {
+      ram = ramAfter program (k .ram) (stateOf (k .bytes)) first second;
+      bytes = afterStep (k .bytes) (stepFrom program (k .ram) (k .bytes) first second);
+    }
+
+-- Calls of mcs48_step on these buffers, one after the other and each accepted, with the cycles that they answered added up.
+pub data Stepped (program : List ℕ) (b : Lent) : Lent → ℕ → Type 0 where
+  none : Stepped program b b 0
+  more :
+      {k : Lent} {n : ℕ} (first second : ℕ) → Stepped program b k n → stepFrom program (k .ram) (k .bytes) first second .number ≡ 0
+      → Stepped program b (stepLeaves program k first second) (n + stepFrom program (k .ram) (k .bytes) first second .cycles)
+
+-- In none of them a reset is seen, or one of STRT T, STRT CNT, STOP TCNT and MOV T,A carried out.
+abbrev pub UndisturbedCalls : {program : List ℕ} {b k : Lent} {n : ℕ} → Stepped program b k n → Type 0
+UndisturbedCalls none = Unit {0}
+UndisturbedCalls {program} (more {k = k} first second h a) = UndisturbedCalls h × Undisturbed program (stateOf (k .bytes)) first
+
+-- The bytes of a state just after STRT T, the counter holding c: T is in byte 6, the divider in byte 7, and 1 in byte 8 says that the counter
+-- counts cycles.
+pub record JustStartedBytes (c : ℕ) (bytes : List ℕ) : Type 0 where
+  pub t : byteAt bytes 6 ≡ c
+  pub divider : byteAt bytes 7 ≡ 0
+  pub counting : byteAt bytes 8 ≡ 1
+
+-- The bytes of a state just after the call to location 7: PC is 007, the request is cleared, and the interrupt is in service.
+pub record CalledBytes (bytes : List ℕ) : Type 0 where
+  pub pc-low : byteAt bytes 1 ≡ 7
+  pub pc-high : byteAt bytes 2 ≡ 0
+  pub request : byteAt bytes 10 ≡ 0
+  pub service : byteAt bytes 13 ≡ 1
