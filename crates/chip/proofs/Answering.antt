@@ -14,7 +14,7 @@ use Rattle.machine.specs.State.{countOf}
 use Rattle.machine.specs.declared.Count.{Count}
 use Rattle.machine.specs.declared.State.{State}
 use Rattle.machine.proofs.Timing.{request-stays, tf-stays}
-use Rattle.effects.specs.Psw.{sp}
+use Rattle.machine.specs.Psw.{sp}
 use Rattle.effects.specs.declared.Write.{Write}
 use Rattle.effects.specs.declared.Write.the-variants.{Pair}
 use Rattle.flow.specs.Stack.{pushed}

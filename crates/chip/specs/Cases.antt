@@ -7,7 +7,7 @@ use lib.ListN.{length, getD, set}
 use Rattle.isa.specs.Choice.{oneIf}
 use Rattle.machine.specs.State.{powerUp, withCore, withPc, withPsw, withFlags, withCount, withInterrupts, withPorts}
 use Rattle.machine.specs.declared.State.{State}
-use Rattle.effects.specs.Psw.{bitC, bitAc, sp}
+use Rattle.machine.specs.Psw.{bitC, bitAc, sp}
 use Rattle.chip.specs.Run.{Ended, runOf}
 
 pub record Case : Type 0 where

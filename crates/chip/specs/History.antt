@@ -18,7 +18,7 @@ use Rattle.machine.specs.declared.Count.{Count}
 use Rattle.machine.specs.declared.Counting.{Counting}
 use Rattle.machine.specs.declared.Counting.the-variants.{Timer}
 use Rattle.machine.specs.declared.State.{State}
-use Rattle.effects.specs.Psw.{sp}
+use Rattle.machine.specs.Psw.{sp}
 use Rattle.execute.specs.Setting.{LeavesCounter}
 use Rattle.chip.specs.Admission.{lentNumber}
 use Rattle.chip.specs.Run.{Progress, Ended, begun, gone, ended, runOver, runOf}

@@ -8,7 +8,7 @@ use Rattle.isa.specs.declared.Cell.{Cell}
 use Rattle.isa.specs.declared.Cell.the-variants.{Register, Indirect}
 use Rattle.isa.specs.declared.Source.{Source}
 use Rattle.isa.specs.declared.Source.the-variants.{FromRegister, FromIndirect, Immediate}
-use Rattle.effects.specs.Psw.{bitBs}
+use Rattle.machine.specs.Psw.{bitBs}
 
 -- (A code holds r from 0 to 7; % 8 makes the definition total.)
 abbrev pub registerAt : ℕ → ℕ → ℕ

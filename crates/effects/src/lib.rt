@@ -5,7 +5,6 @@ use machine::State;
 ghost use mathlib.Core.Path.{_≡_};
 ghost use Rattle.effects.specs.Moves.{quiet, stored, signalled, started, lacking};
 
-pub mod accumulator; // ADD to XRL, CPL A to SWAP A
 pub mod memory; // registers and RAM
 pub mod moves; // XCH, XCHD, INC and DEC of a cell
 pub mod ports; // ports, BUS, the expander

@@ -22,7 +22,7 @@ use Rattle.isa.specs.declared.Switch.the-variants.{EnI, DisI, Ent0Clk, SelMb0, 
 use Rattle.isa.specs.declared.Unary.{Unary}
 use Rattle.isa.specs.declared.Unary.the-variants.{CplA, ClrA, DaA, DecA, IncA, RlA, RlcA, RrA, RrcA, SwapA}
 use Rattle.machine.specs.declared.State.{State}
-use Rattle.effects.specs.Accumulator.{operated, changed}
+use Rattle.accumulator.specs.Accumulator.{operated, changed}
 use Rattle.effects.specs.Ports.{input, output, expanderMoved}
 use Rattle.effects.specs.declared.Effect.{Effect}
 use Rattle.flow.specs.Control.{cleared, complemented, switched}

@@ -25,7 +25,7 @@ use Rattle.isa.specs.declared.Unary.{Unary}
 use Rattle.isa.specs.declared.Unary.the-variants.{CplA, ClrA, DaA, DecA, IncA, RlA, RlcA, RrA, RrcA, SwapA}
 use Rattle.machine.specs.State.{withA}
 use Rattle.machine.specs.declared.State.{State}
-use Rattle.effects.specs.Accumulator.{operated, withAC, lowAdjusted, highAdjusted, changed}
+use Rattle.accumulator.specs.Accumulator.{operated, withAC, lowAdjusted, highAdjusted, changed}
 use Rattle.effects.specs.Ports.{input, output, expanderMoved}
 use Rattle.effects.specs.declared.Effect.{Effect}
 use Rattle.flow.specs.Control.{cleared, complemented, switched}

@@ -8,7 +8,7 @@ use Rattle.isa.specs.declared.Instruction.{Instruction}
 use Rattle.isa.specs.declared.Instruction.the-variants.{Alu, Accumulator, Djnz, Branch, Jmp, Jmpp, Control, MovA, Mov, MovData, MovAPsw, MovPswA, Movp, Movp3, MovxRead, MovxWrite, Xch, Xchd, Cpl, Clr, Logic, In, Outl, Expander, Dec, Inc, Call, Ret, Retr, MovAT, MovTA, Nop}
 use Rattle.machine.specs.State.{withA, withPc, withPsw, withCount}
 use Rattle.machine.specs.declared.State.{State}
-use Rattle.effects.specs.Accumulator.{operated, changed}
+use Rattle.accumulator.specs.Accumulator.{operated, changed}
 use Rattle.effects.specs.Memory.{registerAt, indirectAt, placeOf, sourceOf}
 use Rattle.effects.specs.Moves.{quiet, stored, signalled, exchanged, digitsExchanged, raised}
 use Rattle.machine.specs.Pins.{busPins}

@@ -1,7 +1,6 @@
 // What each of the 96 instructions does to the state, to RAM and to the world outside.
 use effects::Effect;
 use effects::Event;
-use effects::accumulator;
 use effects::memory;
 use effects::moves;
 use effects::ports;

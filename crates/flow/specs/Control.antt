@@ -10,7 +10,7 @@ use Rattle.machine.specs.State.{withPsw, withFlags, withCount, withCounting, wi
 use Rattle.machine.specs.declared.Counting.the-variants.{Stopped, Timer, Counter}
 use Rattle.machine.specs.declared.State.{State}
 use Rattle.effects.specs.Moves.{quiet, started}
-use Rattle.effects.specs.Psw.{bitC, bitF0, withC, withF0, withBs}
+use Rattle.machine.specs.Psw.{bitC, bitF0, withC, withF0, withBs}
 use Rattle.effects.specs.declared.Effect.{Effect}
 
 abbrev pub withF1 : State → Bool → State

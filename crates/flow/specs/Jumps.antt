@@ -13,7 +13,7 @@ use Rattle.machine.specs.State.{withA, withPc, withCount}
 use Rattle.machine.specs.declared.State.{State}
 use Rattle.effects.specs.Moves.{quiet, stored, lacking}
 use Rattle.machine.specs.Pins.{t0Pin, t1Pin, intPin, isHigh, isLow}
-use Rattle.effects.specs.Psw.{bitC, bitF0}
+use Rattle.machine.specs.Psw.{bitC, bitF0}
 use Rattle.effects.specs.declared.Effect.{Effect}
 
 -- "JMP and CALL put DBF in bit 11, or 0 while in service."

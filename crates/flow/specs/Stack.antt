@@ -6,7 +6,7 @@ use mathlib.Core.List.{List}
 use Rattle.isa.specs.Reading.{byteAt}
 use Rattle.machine.specs.State.{withCore, withInterrupts}
 use Rattle.machine.specs.declared.State.{State}
-use Rattle.effects.specs.Psw.{sp, withSp}
+use Rattle.machine.specs.Psw.{sp, withSp}
 use Rattle.effects.specs.declared.Effect.{Effect}
 use Rattle.effects.specs.declared.Event.the-variants.{Quiet}
 use Rattle.effects.specs.declared.Write.the-variants.{Pair}

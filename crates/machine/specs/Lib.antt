@@ -1,3 +1,4 @@
 pub mod Counting
 pub mod Pins
+pub mod Psw
 pub mod State

@@ -1,8 +1,8 @@
--- `effects::accumulator::decimal_adjust` meets its contract.
+-- `accumulator::decimal_adjust` meets its contract.
 -- Assumes nothing.
 use borrow.Author.Needs.{needs}
-use Rattle.effects.proofs.accumulator.decimal_adjust.Statement.{statement}
-use Rattle.effects.proofs.accumulator.decimal_adjust.Tie as tie
+use Rattle.accumulator.proofs.decimal_adjust.Statement.{statement}
+use Rattle.accumulator.proofs.decimal_adjust.Tie as tie
 
 pub decimal-adjust-spec : {M : Type 1} → statement M
 decimal-adjust-spec = tie.close (tie.spec

@@ -1,8 +1,8 @@
--- `effects::accumulator::add` meets its contract.
+-- `accumulator::add` meets its contract.
 -- Assumes nothing.
 use borrow.Author.Needs.{needs}
-use Rattle.effects.proofs.accumulator.add.Statement.{statement}
-use Rattle.effects.proofs.accumulator.add.Tie as tie
+use Rattle.accumulator.proofs.add.Statement.{statement}
+use Rattle.accumulator.proofs.add.Tie as tie
 
 pub add-spec : {M : Type 1} → statement M
 add-spec =

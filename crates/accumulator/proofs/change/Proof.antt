@@ -1,8 +1,8 @@
--- `effects::accumulator::change` meets its contract.
+-- `accumulator::change` meets its contract.
 -- Assumes nothing.
 use borrow.Author.Needs.{needs}
-use Rattle.effects.proofs.accumulator.change.Statement.{statement}
-use Rattle.effects.proofs.accumulator.change.Tie as tie
+use Rattle.accumulator.proofs.change.Statement.{statement}
+use Rattle.accumulator.proofs.change.Tie as tie
 
 pub change-spec : {M : Type 1} → statement M
 change-spec =

@@ -1,9 +1,9 @@
--- `effects::accumulator::low_adjusted` meets its contract.
+-- `accumulator::low_adjusted` meets its contract.
 -- Assumes nothing.
 use Rattle.isa.specs.Choice.{pick}
 use borrow.Author.Needs.{needs}
-use Rattle.effects.proofs.accumulator.low_adjusted.Statement.{statement}
-use Rattle.effects.proofs.accumulator.low_adjusted.Tie as tie
+use Rattle.accumulator.proofs.low_adjusted.Statement.{statement}
+use Rattle.accumulator.proofs.low_adjusted.Tie as tie
 
 pub low-adjusted-spec : {M : Type 1} → statement M
 unfolding pick

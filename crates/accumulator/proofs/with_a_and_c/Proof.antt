@@ -1,8 +1,8 @@
--- `effects::accumulator::with_a_and_c` meets its contract.
+-- `accumulator::with_a_and_c` meets its contract.
 -- Assumes nothing.
 use borrow.Author.Needs.{needs}
-use Rattle.effects.proofs.accumulator.with_a_and_c.Statement.{statement}
-use Rattle.effects.proofs.accumulator.with_a_and_c.Tie as tie
+use Rattle.accumulator.proofs.with_a_and_c.Statement.{statement}
+use Rattle.accumulator.proofs.with_a_and_c.Tie as tie
 
 pub with-a-and-c-spec : {M : Type 1} → statement M
 with-a-and-c-spec = tie.close (tie.spec

@@ -11,7 +11,7 @@ use Rattle.isa.specs.declared.Unary.{Unary}
 use Rattle.isa.specs.declared.Unary.the-variants.{CplA, ClrA, DaA, DecA, IncA, RlA, RlcA, RrA, RrcA, SwapA}
 use Rattle.machine.specs.State.{withCore, withA}
 use Rattle.machine.specs.declared.State.{State}
-use Rattle.effects.specs.Psw.{bitC, bitAc, withC, withCarries}
+use Rattle.machine.specs.Psw.{bitC, bitAc, withC, withCarries}
 
 -- "ADD and ADDC set C and AC to the carries out of bits 7 and 3."
 abbrev pub added : State → ℕ → ℕ → State

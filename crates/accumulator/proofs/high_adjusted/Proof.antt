@@ -1,9 +1,9 @@
--- `effects::accumulator::high_adjusted` meets its contract.
+-- `accumulator::high_adjusted` meets its contract.
 -- Assumes nothing.
 use Rattle.isa.specs.Choice.{pick}
 use borrow.Author.Needs.{needs}
-use Rattle.effects.proofs.accumulator.high_adjusted.Statement.{statement}
-use Rattle.effects.proofs.accumulator.high_adjusted.Tie as tie
+use Rattle.accumulator.proofs.high_adjusted.Statement.{statement}
+use Rattle.accumulator.proofs.high_adjusted.Tie as tie
 
 pub high-adjusted-spec : {M : Type 1} → statement M
 unfolding pick

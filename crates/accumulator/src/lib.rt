@@ -4,8 +4,8 @@ use isa::Unary;
 use machine::State;
 ghost use mathlib.Core.Path.{_≡_};
 ghost use Prim.Native.Nat.{_≤_, _<_};
-ghost use Rattle.effects.specs.Accumulator.{added, operated, withAC, lowAdjusted, highAdjusted, decimalAdjusted, changed};
-ghost use Rattle.effects.specs.Psw.{withC, withCarries};
+ghost use Rattle.accumulator.specs.Accumulator.{added, operated, withAC, lowAdjusted, highAdjusted, decimalAdjusted, changed};
+ghost use Rattle.machine.specs.Psw.{withC, withCarries};
 
 fn with_c(psw: u8, c: u8) -> u8
     requires { ⌜ c ≤ 1 ⌝ }

@@ -1,8 +1,8 @@
--- `effects::accumulator::operate` meets its contract.
+-- `accumulator::operate` meets its contract.
 -- Assumes nothing.
 use borrow.Author.Needs.{needs}
-use Rattle.effects.proofs.accumulator.operate.Statement.{statement}
-use Rattle.effects.proofs.accumulator.operate.Tie as tie
+use Rattle.accumulator.proofs.operate.Statement.{statement}
+use Rattle.accumulator.proofs.operate.Tie as tie
 
 pub operate-spec : {M : Type 1} → statement M
 operate-spec =
