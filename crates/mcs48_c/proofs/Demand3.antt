@@ -18,18 +18,18 @@ use Rattle.machine.specs.declared.State.{State}
 use Rattle.chip.specs.Admission.{lentNumber}
 use Rattle.chip.specs.History.{planAt, after, Steps, cycle, Undisturbed, AllUndisturbed, JustStarted, CallTo7, History, StepWith, upTo, HistoryOf, overflowCycle, Asked, next}
 use Rattle.chip.specs.History.{none as no-steps, more as one-more}
-use Rattle.chip.specs.Run.{Progress, Ended, begun, ended}
+use Rattle.chip.specs.Run.{Progress, Ended, begun, ended, runOf}
 use Rattle.chip.specs.Step.{stepOf}
 use Rattle.chip.specs.declared.Outcome.{Outcome}
 use Rattle.chip.proofs.Answering.{step-enabled, left-tf, left-request, call-law, within-3}
-use Rattle.chip.proofs.Cycles.{Running, at-start}
+use Rattle.chip.proofs.Cycles.{Running, one-or-two, at-start}
 use Rattle.chip.proofs.Demand3.{count-after, tf-left, request-left, run-count, called-in-time}
-use Rattle.chip.proofs.Exactly.{allowed, lent-refuses}
-use Rattle.chip.proofs.Linking.{sample-a-cycle}
+use Rattle.chip.proofs.Exactly.{refused-unchanged, allowed, lent-refuses}
+use Rattle.chip.proofs.Linking.{sample-a-cycle, run-history}
 use Rattle.chip.proofs.Runs.{run-short}
 use Rattle.mcs48_c.specs.Bytes.{countingOf, bytesOf, formed, stateIn, stateOf, holding}
 use Rattle.mcs48_c.specs.Calls.{stepFrom, runFrom, afterStep, afterRun}
-use Rattle.mcs48_c.specs.Stepping.{Lent, stepLeaves, Stepped, none, more, UndisturbedCalls, JustStartedBytes, CalledBytes}
+use Rattle.mcs48_c.specs.Stepping.{Lent, runLeaves, stepLeaves, Stepped, none, more, UndisturbedCalls, JustStartedBytes, CalledBytes}
 use Rattle.mcs48_c.proofs.States.{state-back}
 
 -- ---- bytes that stand for a permitted state
@@ -74,49 +74,97 @@ module _ (program ram : List ℕ) (bytes : List ℕ) (first second : ℕ) where
   step-bytes a =
       rw (eq-eqb _ _ a) (held bytes _ (allowed program ram (stateOf bytes) first second (accepted-lent a) .state-permitted))
 
+-- ---- the bytes that a call leaves stand for the state that the chip's step or run leaves
+pub c-step-state :
+    (program : List ℕ) (b : Lent) (first second : ℕ)
+    → stateOf (stepLeaves program b first second .bytes) ≡ stepFrom program (b .ram) (b .bytes) first second .state
+unfolding pick
+c-step-state program b first second = go (eqb (stepFrom program (b .ram) (b .bytes) first second .number) 0) refl
+  where
+    go :
+        (x : Bool) → eqb (stepFrom program (b .ram) (b .bytes) first second .number) 0 ≡ x
+        → stateOf (stepLeaves program b first second .bytes) ≡ stepFrom program (b .ram) (b .bytes) first second .state
+    go true e = ap stateOf (step-bytes program (b .ram) (b .bytes) first second (eqb-true _ _ e)) ∙ state-back _
+    go false e = rw e (sym (refused-unchanged program (b .ram) (stateOf (b .bytes)) first second (eqb-false _ _ e) .state))
+
+-- Where no sample was used no step was done.
+unmoved : {program ram : List ℕ} {s : State} {k : Progress} → Steps program ram s k → k .used ≡ 0 → k .state ≡ s
+unmoved no-steps e = refl
+unmoved {program} (one-more {k = k} first second h a) e = let o = one-or-two program k first second a in absurd (omega (arith, o .0))
+
+pub c-run-state :
+    (program : List ℕ) (b : Lent) (samples : List ℕ)
+    → stateOf (runLeaves program b samples .bytes) ≡ runFrom program (b .ram) (b .bytes) samples .ran .state
+unfolding pick
+c-run-state program b samples =
+    go (eqb (lentNumber (length program) (length (b .ram)) (stateOf (b .bytes))) 0) (eqb (ran .ran .used) 0) refl refl
+  where
+    ran : Ended
+    ran = runFrom program (b .ram) (b .bytes) samples
+
+    not-begun :
+        (lentNumber (length program) (length (b .ram)) (stateOf (b .bytes)) ≡ 0 → ⊥)
+        → ran ≡ ended (begun (b .ram) (stateOf (b .bytes))) (lentNumber (length program) (length (b .ram)) (stateOf (b .bytes)))
+    not-begun n = unfold runOf pick in rw (ne-eqb _ _ n)
+
+    go :
+        (x y : Bool) → eqb (lentNumber (length program) (length (b .ram)) (stateOf (b .bytes))) 0 ≡ x → eqb (ran .ran .used) 0 ≡ y
+        → stateOf (runLeaves program b samples .bytes) ≡ ran .ran .state
+    go true true e f =
+        let h = run-history program (b .ram) (stateOf (b .bytes)) samples (eqb-true _ _ e) in
+        rw f
+        (sym
+        (ap (λ (r : Ended). r .ran .state) (h .is)
+        ∙ unmoved (h .steps) (sym (ap (λ (r : Ended). r .ran .used) (h .is)) ∙ eqb-true _ _ f)))
+    go true false e f =
+        ap stateOf
+        (rw f (held (b .bytes) _ (allowed program (b .ram) (stateOf (b .bytes)) 0 0 (eqb-true _ _ e) .state-permitted)))
+        ∙ state-back _
+    go false y e f = rw (not-begun (eqb-false _ _ e))
+
 -- ---- mcs48_run
-module _ (program ram bytes samples : List ℕ) (lent : lentNumber (length program) (length ram) (stateOf bytes) ≡ 0) where
+module _ (program : List ℕ) (b : Lent) (samples : List ℕ) (lent : lentNumber (length program) (length (b .ram)) (stateOf (b .bytes)) ≡ 0) where
   abbrev ran : Ended
-  ran = runFrom program ram bytes samples
+  ran = runFrom program (b .ram) (b .bytes) samples
 
   -- The bytes that the call leaves.
   abbrev left : List ℕ
-  left = afterRun bytes (ran .ran)
+  left = runLeaves program b samples .bytes
 
-  stands : permitted (stateOf bytes) ≡ true
-  stands = allowed program ram (stateOf bytes) 0 0 lent .state-permitted
+  stands : permitted (stateOf (b .bytes)) ≡ true
+  stands = allowed program (b .ram) (stateOf (b .bytes)) 0 0 lent .state-permitted
 
   -- Where a step was done they are those of the run's state, and else as they were, the run's state being theirs.
   run-bytes : (ran .ran .used ≡ 0 → ⊥) → left ≡ bytesOf (ran .ran .state)
   unfolding pick
-  run-bytes n = rw (ne-eqb _ _ n) (held bytes _ stands)
+  run-bytes n = rw (ne-eqb _ _ n) (held (b .bytes) _ stands)
 
-  no-bytes : ran .ran .used ≡ 0 → left ≡ bytes
+  no-bytes : ran .ran .used ≡ 0 → left ≡ b .bytes
   unfolding pick
   no-bytes e = rw (eq-eqb _ _ e)
 
-  module _ (c : ℕ) (small : c < 256) (started : JustStartedBytes c bytes) where
+  module _ (c : ℕ) (small : c < 256) (started : JustStartedBytes c (b .bytes)) where
     -- "After n more cycles the counter holds c plus the whole part of n/32, modulo 256": byte 6, the cycles being those of the totals.
     pub c-run-count :
-        (h : HistoryOf program ram (stateOf bytes) samples ran) → AllUndisturbed (h .steps)
-        → byteAt left 6 ≡ (c + ran .ran .cycles / 32) % 256
+        (h : HistoryOf program (b .ram) (stateOf (b .bytes)) samples (runFrom program (b .ram) (b .bytes) samples)) → AllUndisturbed (h .steps)
+        → byteAt (runLeaves program b samples .bytes) 6 ≡ (c + runFrom program (b .ram) (b .bytes) samples .ran .cycles / 32) % 256
     unfolding bytesOf
     c-run-count h u = go (eqb (ran .ran .used) 0) refl
       where
         none-spent : ran .ran .used ≡ 0 → ran .ran .cycles ≡ 0
         none-spent e = ap (λ (x : Ended). x .ran .cycles) (h .is) ∙ sym (h .used) ∙ sym (ap (λ (x : Ended). x .ran .used) (h .is)) ∙ e
 
-        go : (b : Bool) → eqb (ran .ran .used) 0 ≡ b → byteAt left 6 ≡ (c + ran .ran .cycles / 32) % 256
+        go : (x : Bool) → eqb (ran .ran .used) 0 ≡ x → byteAt left 6 ≡ (c + ran .ran .cycles / 32) % 256
         go true e =
             let z : ran .ran .cycles ≡ 0 = none-spent (eqb-true _ _ e) in
             ap (λ (l : List ℕ). byteAt l 6) (no-bytes (eqb-true _ _ e)) ∙ started .t ∙ rw z (omega arith)
         go false e =
             ap (λ (l : List ℕ). byteAt l 6) (run-bytes (eqb-false _ _ e))
-            ∙ run-count c small (started-state c bytes stands started) samples h u
+            ∙ run-count c small (started-state c (b .bytes) stands started) samples h u
 
     -- A run that ends with the step of the first overflow leaves TF set, in byte 9, and, if the timer interrupt was enabled in that cycle, a
     -- request, in byte 10.
-    module _ (p : History program ram (stateOf bytes)) (is : ran ≡ ended (p .end) (ran .ran .number)) (u : AllUndisturbed (p .steps))
+    module _ (p : History program (b .ram) (stateOf (b .bytes))) (is : runFrom program (b .ram) (b .bytes) samples ≡ ended (p .end) (runFrom program (b .ram) (b .bytes) samples .ran .number)) (u : AllUndisturbed (p .steps))
         (o : StepWith (overflowCycle c) p) (ends : upTo o .end ≡ p .end) where
       some-used : ran .ran .used ≡ 0 → ⊥
       some-used z =
@@ -130,39 +178,39 @@ module _ (program ram bytes samples : List ℕ) (lent : lentNumber (length progr
           run-bytes some-used
           ∙ ap bytesOf (ap (λ (x : Ended). x .ran .state) is ∙ sym (ap (λ (k : Progress). k .state) ends))
 
-      pub c-run-tf : byteAt left 9 ≡ 1
+      pub c-run-tf : byteAt (runLeaves program b samples .bytes) 9 ≡ 1
       unfolding bytesOf
       c-run-tf =
           ap (λ (l : List ℕ). byteAt l 9) left-is
-          ∙ ap oneIf (tf-left c small (started-state c bytes stands started) p u o)
+          ∙ ap oneIf (tf-left c small (started-state c (b .bytes) stands started) p u o)
 
-      pub c-run-request : cycle (p .steps) (overflowCycle c) .enabled ≡ true → byteAt left 10 ≡ 1
+      pub c-run-request : cycle (p .steps) (overflowCycle c) .enabled ≡ true → byteAt (runLeaves program b samples .bytes) 10 ≡ 1
       unfolding bytesOf
       c-run-request on =
           ap (λ (l : List ℕ). byteAt l 10) left-is
-          ∙ ap oneIf (request-left c small (started-state c bytes stands started) p u o on)
+          ∙ ap oneIf (request-left c small (started-state c (b .bytes) stands started) p u o on)
 
     -- Where all is met that the demand asks, a run whose samples end with the next step leaves the bytes of the call to location 7, and has
     -- spent at most 3 cycles after the overflow.
-    module _ (q : Asked program ram (stateOf bytes) samples c) (last : length samples ≤ next q .end .used + 1) where
+    module _ (q : Asked program (b .ram) (stateOf (b .bytes)) samples c) (last : length samples ≤ next q .end .used + 1) where
       there : ran ≡ ended (next q .end) 0
       there =
-          called-in-time c small (started-state c bytes stands started) lent q .through
+          called-in-time c small (started-state c (b .bytes) stands started) lent q .through
           ∙ run-short program samples (next q .end .used) (next q .end) last
 
       some-spent : ran .ran .used ≡ 0 → ⊥
       some-spent z =
           let e : next q .end .used ≡ 0 = sym (ap (λ (x : Ended). x .ran .used) there) ∙ z in
-          let two = called-in-time c small (started-state c bytes stands started) lent q .calls .cycles in
+          let two = called-in-time c small (started-state c (b .bytes) stands started) lent q .calls .cycles in
           omega (arith, e, two)
 
-      pub c-run-called : CalledBytes left
+      pub c-run-called : CalledBytes (runLeaves program b samples .bytes)
       unfolding bytesOf
       c-run-called =
           let bytes-are : left ≡ bytesOf (next q .end .state) =
           run-bytes some-spent ∙ ap (λ (x : Ended). bytesOf (x .ran .state)) there
           in
-          let calls = called-in-time c small (started-state c bytes stands started) lent q .calls in
+          let calls = called-in-time c small (started-state c (b .bytes) stands started) lent q .calls in
           rw bytes-are
           (record {
             pc-low = ap (λ (pc : ℕ). pc % 256) (calls .pc);
@@ -171,8 +219,8 @@ module _ (program ram bytes samples : List ℕ) (lent : lentNumber (length progr
             service = ap oneIf (calls .service);
           })
 
-      pub c-run-soon : ran .ran .cycles ≤ overflowCycle c + 3
-      c-run-soon = rw there (called-in-time c small (started-state c bytes stands started) lent q .soon)
+      pub c-run-soon : runFrom program (b .ram) (b .bytes) samples .ran .cycles ≤ overflowCycle c + 3
+      c-run-soon = rw there (called-in-time c small (started-state c (b .bytes) stands started) lent q .soon)
 
 -- ---- mcs48_step, call after call
 -- The calls as a history of the chip.
@@ -247,7 +295,7 @@ module _ (program : List ℕ) (b : Lent) (lent : lentNumber (length program) (le
   module _ {k : Lent} {n : ℕ} (first second : ℕ) (h : Stepped program b k n) (a : stepFrom program (k .ram) (k .bytes) first second .number ≡ 0)
       (u : UndisturbedCalls (more first second h a)) (starts : n < overflowCycle c)
       (ends : overflowCycle c ≤ n + stepFrom program (k .ram) (k .bytes) first second .cycles) where
-    abbrev overflowed : Lent
+    abbrev pub overflowed : Lent
     overflowed = stepLeaves program k first second
 
     from : Running c 0 (stateOf (b .bytes))

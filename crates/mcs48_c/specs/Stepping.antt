@@ -1,4 +1,5 @@
--- The third demand for a program in C: calls of mcs48_step one after the other, and the bytes that tell of the counter and the call.
+-- The third demand for a program in C: what calls leave in its buffers, calls of mcs48_step one after the other, and the bytes that tell of
+-- the counter and of the call to location 7.
 -- Assumes nothing.
 use Prim.Native.Nat.{ℕ, _+_}
 use mathlib.Core.List.{List}
@@ -7,12 +8,20 @@ use Rattle.isa.specs.Reading.{byteAt}
 use Rattle.chip.specs.History.{Undisturbed}
 use Rattle.chip.specs.Step.{ramAfter}
 use Rattle.mcs48_c.specs.Bytes.{stateOf}
-use Rattle.mcs48_c.specs.Calls.{stepFrom, afterStep}
+use Rattle.mcs48_c.specs.Calls.{stepFrom, runFrom, afterStep, afterRun}
 
 -- The buffers of the RAM and of the state.
 pub record Lent : Type 0 where
   pub ram : List ℕ
   pub bytes : List ℕ
+
+-- What a call of mcs48_run leaves in them.
+abbrev pub runLeaves : List ℕ → Lent → List ℕ → Lent
+runLeaves program k samples =
+    record {
+      ram = runFrom program (k .ram) (k .bytes) samples .ram;
+      bytes = afterRun (k .bytes) (runFrom program (k .ram) (k .bytes) samples .ran);
+    }
 
 -- What a call of mcs48_step leaves in them.
 abbrev pub stepLeaves : List ℕ → Lent → ℕ → ℕ → Lent
