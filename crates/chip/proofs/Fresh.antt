@@ -129,7 +129,7 @@ pub course-once : (program ram : List ℕ) (s : State) (first second : ℕ) → 
 unfolding course
 course-once program ram s first second =
     either Once _ _ _ (λ t. declined-once _ s (eqb-false _ _ (not-true _ t)))
-    (λ t. either Once _ _ _ (λ u. accepted-once _ 1 (λ two. refl))
-    (λ u. either Once _ _ _ (λ v. accepted-once _ 2 (λ two. called-once s 3))
-    (λ v. either Once _ _ _ (λ w. accepted-once _ 2 (λ two. called-once _ 7))
+    (λ t. either Once _ _ _ (λ u. accepted-once _ _ (λ two. refl))
+    (λ u. either Once _ _ _ (λ v. accepted-once _ _ (λ two. called-once s 3))
+    (λ v. either Once _ _ _ (λ w. accepted-once _ _ (λ two. called-once _ 7))
     (λ w. carried-once program ram s first second))))

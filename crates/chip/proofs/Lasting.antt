@@ -54,9 +54,9 @@ course-lasting : (program ram : List ℕ) (s : State) (first second : ℕ) → L
 unfolding course
 course-lasting program ram s first second =
     either Lasting _ _ _ (λ t. declined-lasting _ s (eqb-false _ _ (not-true _ t)))
-    (λ t. either Lasting _ _ _ (λ u. accepted-lasting _ 1 (lit≤ tt) (lit≤ tt))
-    (λ u. either Lasting _ _ _ (λ v. accepted-lasting _ 2 (lit≤ tt) (lit≤ tt))
-    (λ v. either Lasting _ _ _ (λ w. accepted-lasting _ 2 (lit≤ tt) (lit≤ tt))
+    (λ t. either Lasting _ _ _ (λ u. accepted-lasting _ _ (lit≤ tt) (lit≤ tt))
+    (λ u. either Lasting _ _ _ (λ v. accepted-lasting _ _ (lit≤ tt) (lit≤ tt))
+    (λ v. either Lasting _ _ _ (λ w. accepted-lasting _ _ (lit≤ tt) (lit≤ tt))
     (λ w. carried-lasting program ram s first second))))
 
 pub record Busy (p : Plan) : Type 0 where
