@@ -308,7 +308,7 @@ module _ (c : ℕ) (small : c < 256) where
   admitted = refl
 
   in-time : Called (asked c small)
-  in-time = called-in-time c small (record { counting = refl; t = refl; divider = refl }) admitted (asked c small)
+  in-time = called-in-time c small (started c small) admitted (asked c small)
 
   end : Progress
   end = next (asked c small) .end

@@ -97,7 +97,7 @@ pub data Steps (program ram : List ℕ) (s : State) : Progress → Type 0 where
       {k : Progress} (first second : ℕ) → Steps program ram s k → planAt program k first second .number ≡ 0
       → Steps program ram s (after program k first second)
 
--- Cycle i of a history, from 1 to its number of cycles.
+-- Cycle i of a history, from 1 to its number of cycles. (An empty history has none; what it gives makes the definition total.)
 unfoldable pub cycle : {program ram : List ℕ} {s : State} {k : Progress} → Steps program ram s k → ℕ → Cycle
 cycle {s = s} none i = record { counting = s .counting; before = countOf s; t1 = false; enabled = false; fresh = false }
 cycle {program} (more {k = k} first second h a) i =

@@ -16,7 +16,7 @@ use Rattle.machine.specs.Pins.{intPin, isLow}
 use Rattle.machine.specs.State.{permitted}
 use Rattle.machine.specs.declared.State.{State}
 use Rattle.chip.specs.Admission.{lentNumber}
-use Rattle.chip.specs.History.{planAt, after, Steps, cycle, Undisturbed, AllUndisturbed, JustStarted, CallTo7, History, StepWith, upTo, HistoryOf, overflowCycle, Asked, next}
+use Rattle.chip.specs.History.{planAt, after, Steps, cycle, Undisturbed, AllUndisturbed, JustStarted, CallTo7, History, StepWith, upTo, HistoryOf, overflowCycle, Asked, until, next, Called}
 use Rattle.chip.specs.History.{none as no-steps, more as one-more}
 use Rattle.chip.specs.Run.{Progress, Ended, begun, ended, runOf}
 use Rattle.chip.specs.Step.{stepOf}
@@ -28,7 +28,7 @@ use Rattle.chip.proofs.Exactly.{refused-unchanged, allowed, lent-refuses}
 use Rattle.chip.proofs.Linking.{sample-a-cycle, run-history}
 use Rattle.chip.proofs.Runs.{run-short}
 use Rattle.mcs48_c.specs.Bytes.{countingOf, bytesOf, formed, stateIn, stateOf, holding}
-use Rattle.mcs48_c.specs.Calls.{stepFrom, runFrom, afterStep, afterRun}
+use Rattle.mcs48_c.specs.Calls.{stepFrom, runFrom, afterStep}
 use Rattle.mcs48_c.specs.Stepping.{Lent, runLeaves, stepLeaves, Stepped, none, more, UndisturbedCalls, JustStartedBytes, CalledBytes}
 use Rattle.mcs48_c.proofs.States.{state-back}
 
@@ -73,6 +73,20 @@ module _ (program ram : List ℕ) (bytes : List ℕ) (first second : ℕ) where
   unfolding pick
   step-bytes a =
       rw (eq-eqb _ _ a) (held bytes _ (allowed program ram (stateOf bytes) first second (accepted-lent a) .state-permitted))
+
+-- The bytes of the state that the call to location 7 leaves.
+called-bytes :
+    (program : List ℕ) (k : Progress) (first second : ℕ) (bytes : List ℕ) → bytes ≡ bytesOf (after program k first second .state)
+    → CallTo7 program k first second → CalledBytes bytes
+unfolding bytesOf
+called-bytes program k first second bytes e call =
+    rw e
+    (record {
+      pc-low = ap (λ (pc : ℕ). pc % 256) (call .pc);
+      pc-high = ap (λ (pc : ℕ). pc / 256) (call .pc);
+      request = ap oneIf (call .request);
+      service = ap oneIf (call .service);
+    })
 
 -- ---- the bytes that a call leaves stand for the state that the chip's step or run leaves
 pub c-step-state :
@@ -193,34 +207,24 @@ module _ (program : List ℕ) (b : Lent) (samples : List ℕ) (lent : lentNumber
     -- Where all is met that the demand asks, a run whose samples end with the next step leaves the bytes of the call to location 7, and has
     -- spent at most 3 cycles after the overflow.
     module _ (q : Asked program (b .ram) (stateOf (b .bytes)) samples c) (last : length samples ≤ next q .end .used + 1) where
+      in-time : Called q
+      in-time = called-in-time c small (started-state c (b .bytes) stands started) lent q
+
       there : ran ≡ ended (next q .end) 0
-      there =
-          called-in-time c small (started-state c (b .bytes) stands started) lent q .through
-          ∙ run-short program samples (next q .end .used) (next q .end) last
+      there = in-time .through ∙ run-short program samples (next q .end .used) (next q .end) last
 
       some-spent : ran .ran .used ≡ 0 → ⊥
       some-spent z =
           let e : next q .end .used ≡ 0 = sym (ap (λ (x : Ended). x .ran .used) there) ∙ z in
-          let two = called-in-time c small (started-state c (b .bytes) stands started) lent q .calls .cycles in
+          let two = in-time .calls .cycles in
           omega (arith, e, two)
 
       pub c-run-called : CalledBytes (runLeaves program b samples .bytes)
-      unfolding bytesOf
       c-run-called =
-          let bytes-are : left ≡ bytesOf (next q .end .state) =
-          run-bytes some-spent ∙ ap (λ (x : Ended). bytesOf (x .ran .state)) there
-          in
-          let calls = called-in-time c small (started-state c (b .bytes) stands started) lent q .calls in
-          rw bytes-are
-          (record {
-            pc-low = ap (λ (pc : ℕ). pc % 256) (calls .pc);
-            pc-high = ap (λ (pc : ℕ). pc / 256) (calls .pc);
-            request = ap oneIf (calls .request);
-            service = ap oneIf (calls .service);
-          })
+          called-bytes program (until q .end) _ _ left (run-bytes some-spent ∙ ap (λ (x : Ended). bytesOf (x .ran .state)) there) (in-time .calls)
 
       pub c-run-soon : runFrom program (b .ram) (b .bytes) samples .ran .cycles ≤ overflowCycle c + 3
-      c-run-soon = rw there (called-in-time c small (started-state c (b .bytes) stands started) lent q .soon)
+      c-run-soon = rw there (in-time .soon)
 
 -- ---- mcs48_step, call after call
 -- The calls as a history of the chip.
@@ -360,15 +364,8 @@ module _ (program : List ℕ) (b : Lent) (lent : lentNumber (length program) (le
         call = call-law c small from (follows h .steps) first second fine begins reaches enabled first' second' fine' calm' unserved quiet
 
         pub c-steps-called : CalledBytes (stepLeaves program overflowed first' second' .bytes)
-        unfolding bytesOf follows follow-more
-        c-steps-called =
-            rw (left-bytes first' second' (more first second h a) a')
-            (record {
-              pc-low = ap (λ (pc : ℕ). pc % 256) (call .pc);
-              pc-high = ap (λ (pc : ℕ). pc / 256) (call .pc);
-              request = ap oneIf (call .request);
-              service = ap oneIf (call .service);
-            })
+        unfolding follows follow-more
+        c-steps-called = called-bytes program _ first' second' _ (left-bytes first' second' (more first second h a) a') call
 
         pub c-steps-soon :
             n + stepFrom program (k .ram) (k .bytes) first second .cycles
