@@ -2,8 +2,8 @@ SHELL = bash
 PREFIX ?= /usr/local
 ARCHIVE = target/staticlib/libmcs48_c.a
 # make: prove what has changed and build it · make demo: the night of twenty past two · make test: the gate, from nothing
-# make bench · make list ROM=file: list a ROM · make install PREFIX=/usr/local · make fmt
-.PHONY: all archive demo test bench list install fmt
+# make bench · make count: the instructions of a step · make list ROM=file: list a ROM · make install PREFIX=/usr/local · make fmt
+.PHONY: all archive demo test bench count list install fmt
 all: archive
 	rt check
 archive: $(ARCHIVE)
@@ -17,6 +17,8 @@ test:
 	bash .ci/run
 bench: archive
 	@bench/run
+count: archive
+	@bench/count
 list:
 	@[ -n "$(ROM)" ] || { echo 'make list ROM=file' >&2; exit 2; }
 	@rt check list | grep '^rt:' >&2

@@ -15,13 +15,11 @@ use Rattle.machine.specs.declared.Count.{Count}
 use Rattle.machine.specs.declared.State.{State}
 use Rattle.machine.proofs.Timing.{request-stays, tf-stays}
 use Rattle.machine.specs.Psw.{sp}
-use Rattle.effects.specs.declared.Write.{Write}
-use Rattle.effects.specs.declared.Write.the-variants.{Pair}
+use Rattle.effects.specs.Effect.{Write, Pair, written}
 use Rattle.flow.specs.Stack.{pushed}
 use Rattle.chip.specs.History.{Cycle, afterwards, Overflowing, firstCycle, secondCycle, courseAt, planAt, after, Steps, more, cycle, Undisturbed, AllUndisturbed, CallTo7, overflowCycle}
 use Rattle.chip.specs.Run.{Progress}
-use Rattle.chip.specs.Step.{declined, accepted, called, withoutRequest, externalCalls, timerCalls, course, settled, written}
-use Rattle.chip.specs.declared.Course.{Course}
+use Rattle.chip.specs.Step.{Course, declined, accepted, called, withoutRequest, externalCalls, timerCalls, course, settled}
 use Rattle.chip.proofs.Choices.{either}
 use Rattle.chip.proofs.Cycles.{Counts, Running, plan-write, cycle-first, cycle-second, count-law, one-or-two, accepted-course, is-settled, same-cycles, ends-first, ends-second, ends-enabled, first-counts, second-counts}
 use Rattle.chip.proofs.Overflows.{overflowing, calm, first-hit}

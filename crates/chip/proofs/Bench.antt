@@ -5,12 +5,13 @@ use mathlib.Core.Path.{_≡_, refl}
 use Rattle.isa.specs.Choice.{pick}
 use Rattle.isa.specs.Reading.{instructionAt, decodedAt}
 use Rattle.isa.specs.Sheet.{kindOf, entryOf}
+use Rattle.effects.specs.Effect.{written}
 use Rattle.flow.specs.Stack.{pushed}
 use Rattle.execute.specs.Execute.{executed}
 use Rattle.chip.specs.Admission.{lentNumber, admission}
 use Rattle.chip.specs.Cases.{seen, cases}
 use Rattle.chip.specs.Run.{runOver, runOf}
-use Rattle.chip.specs.Step.{declined, accepted, resetState, called, withoutRequest, done, carried, course, ticked, settled, planBy, written}
+use Rattle.chip.specs.Step.{declined, accepted, resetState, called, withoutRequest, done, carried, course, ticked, settled, planBy}
 
 pub bench : map seen cases ≡ map (λ c. c .want) cases
 unfolding runOf runOver planBy settled ticked course carried done accepted declined resetState called withoutRequest written admission lentNumber executed pushed instructionAt decodedAt entryOf kindOf pick

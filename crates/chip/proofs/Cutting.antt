@@ -15,8 +15,7 @@ use Rattle.effects.specs.declared.Event.{Event}
 use Rattle.chip.specs.Admission.{lentNumber}
 use Rattle.chip.specs.History.{Steps, none, more, Reads, HistoryOf}
 use Rattle.chip.specs.Run.{Progress, Ended, begun, gone, ended, turned, runOver, runOf, Joined}
-use Rattle.chip.specs.Step.{planOf}
-use Rattle.chip.specs.declared.Plan.{Plan}
+use Rattle.chip.specs.Step.{Plan, planOf}
 use Rattle.chip.proofs.Laws.{still-stands}
 use Rattle.chip.proofs.Linking.{over-through, over-history, run-over}
 

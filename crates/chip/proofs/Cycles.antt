@@ -19,15 +19,13 @@ use Rattle.machine.specs.declared.Counting.{Counting}
 use Rattle.machine.specs.declared.Counting.the-variants.{Timer}
 use Rattle.machine.specs.declared.State.{State}
 use Rattle.machine.proofs.Timing.{At, one-more}
-use Rattle.effects.specs.declared.Effect.{Effect}
+use Rattle.effects.specs.Effect.{Effect}
 use Rattle.flow.specs.Stack.{pushed}
 use Rattle.execute.specs.Setting.{LeavesCounter, Setting, settingOf}
 use Rattle.execute.proofs.Keeping.{Keeps, keeps}
 use Rattle.chip.specs.History.{Cycle, afterwards, firstCycle, secondCycle, courseAt, planAt, after, Steps, none, more, cycle, Undisturbed, AllUndisturbed, JustStarted}
 use Rattle.chip.specs.Run.{Progress}
-use Rattle.chip.specs.Step.{declined, accepted, called, withoutRequest, pcAfter, done, carriedBy, carried, course, ticked, settled, planBy}
-use Rattle.chip.specs.declared.Course.{Course}
-use Rattle.chip.specs.declared.Plan.{Plan}
+use Rattle.chip.specs.Step.{Course, Plan, declined, accepted, called, withoutRequest, pcAfter, done, carriedBy, carried, course, ticked, settled, planBy}
 use Rattle.chip.proofs.Choices.{either}
 use Rattle.chip.proofs.Fresh.{course-once}
 use Rattle.chip.proofs.Lasting.{plan-busy}

@@ -1,7 +1,7 @@
 -- A step gives a number exactly when document 01's table says so; and a refused step changes nothing (demand 1).
 -- Assumes nothing.
-use Prim.Native.Nat.{ℕ}
-use mathlib.Core.Bool.{Bool, true, false, not, _&&_}
+use Prim.Native.Nat.{ℕ, _≤_}
+use mathlib.Core.Bool.{Bool, true, false, not, _&&_, _||_, false≢true}
 use mathlib.Core.List.{List}
 use mathlib.Core.Path.{_≡_, refl, sym, _∙_, ap, subst}
 use native.Mathlib.Omega.{arith}
@@ -19,16 +19,14 @@ use Rattle.isa.specs.declared.Instruction.the-variants.{Alu, Accumulator, Djnz,
 use Rattle.machine.specs.Pins.{resetPin, isLow}
 use Rattle.machine.specs.State.{permitted, withPc}
 use Rattle.machine.specs.declared.State.{State}
+use Rattle.effects.specs.Effect.{Nothing, Effect, written}
 use Rattle.effects.specs.Moves.{quiet}
-use Rattle.effects.specs.declared.Effect.{Effect}
 use Rattle.effects.specs.declared.Event.the-variants.{Quiet}
 use Rattle.flow.specs.Stack.{pushed}
 use Rattle.execute.specs.Execute.{executed}
 use Rattle.chip.specs.Admission.{programAllowed, ramAllowed, sampleAllowed, sampleNumber, lentNumber, admission}
 use Rattle.chip.specs.Refusals.{Fetches, Gives, program-length, ram-length, state-outside, sample-bits, no-first-byte, undefined-code, no-second-byte, no-table-byte, TableByte, of-movp, of-movp3, of-jmpp}
-use Rattle.chip.specs.Step.{externalCalls, timerCalls, pcAfter, resetState, called, withoutRequest, declined, accepted, done, carriedBy, carried, course, planBy, planOf, stepOf, ramAfter, written}
-use Rattle.chip.specs.declared.Course.{Course}
-use Rattle.chip.specs.declared.Plan.{Plan}
+use Rattle.chip.specs.Step.{Course, Plan, externalCalls, timerCalls, pcAfter, resetState, called, withoutRequest, declined, accepted, done, carriedBy, carried, course, planBy, planOf, stepOf, ramAfter}
 use Rattle.chip.proofs.Choices.{either}
 
 -- A refused step returns its number, the state it got, no event and 0 cycles, and leaves RAM as it was.
@@ -55,19 +53,20 @@ number-of c s first second = go (eqb (c .number) 0) refl
     go true h = rw h (sym (eqb-true _ _ h))
     go false h = rw h
 
--- An instruction gives 5, and only where the program lacks its table byte.
+-- An instruction gives 5, and only where the program lacks its table byte; and then it writes nothing.
 record Lacking (program : List ℕ) (base a : ℕ) (i : Instruction) (e : Effect) : Type 0 where
   at : ℕ
   table-byte : TableByte base a i at
   none-there : lacks program at ≡ true
   five : e .number ≡ 5
+  silent : e .write ≡ Nothing
 
 table-lacks :
     (program : List ℕ) (base a : ℕ) (i : Instruction) (at : ℕ) → TableByte base a i at → (b : Bool) → lacks program at ≡ b → (x y : Effect)
-    → x .number ≡ 5 → y .number ≡ 0 → (pick b x y .number ≡ 0 → ⊥) → Lacking program base a i (pick b x y)
+    → x .number ≡ 5 → x .write ≡ Nothing → y .number ≡ 0 → (pick b x y .number ≡ 0 → ⊥) → Lacking program base a i (pick b x y)
 unfolding pick
-table-lacks program base a i at w true e x y p q h = record { at = at; table-byte = w; none-there = e; five = p }
-table-lacks program base a i at w false e x y p q h = absurd (h q)
+table-lacks program base a i at w true e x y p n q h = record { at = at; table-byte = w; none-there = e; five = p; silent = n }
+table-lacks program base a i at w false e x y p n q h = absurd (h q)
 
 module _ (program ram : List ℕ) (s : State) (base first second : ℕ) where
   numbered :
@@ -79,7 +78,7 @@ module _ (program ram : List ℕ) (s : State) (base first second : ℕ) where
   numbered (Djnz r d) h = absurd (h refl)
   numbered (Branch c d) h = absurd (h refl)
   numbered (Jmp a) h = absurd (h refl)
-  numbered Jmpp h = table-lacks program base (s .a) Jmpp _ of-jmpp _ refl _ _ refl refl h
+  numbered Jmpp h = table-lacks program base (s .a) Jmpp _ of-jmpp _ refl _ _ refl refl refl h
   numbered (Control EnI) h = absurd (h refl)
   numbered (Control DisI) h = absurd (h refl)
   numbered (Control Ent0Clk) h = absurd (h refl)
@@ -97,8 +96,8 @@ module _ (program ram : List ℕ) (s : State) (base first second : ℕ) where
   numbered (MovData to d) h = absurd (h refl)
   numbered MovAPsw h = absurd (h refl)
   numbered MovPswA h = absurd (h refl)
-  numbered Movp h = table-lacks program base (s .a) Movp _ of-movp _ refl _ _ refl refl h
-  numbered Movp3 h = table-lacks program base (s .a) Movp3 _ of-movp3 _ refl _ _ refl refl h
+  numbered Movp h = table-lacks program base (s .a) Movp _ of-movp _ refl _ _ refl refl refl h
+  numbered Movp3 h = table-lacks program base (s .a) Movp3 _ of-movp3 _ refl _ _ refl refl refl h
   numbered (MovxRead r) h = absurd (h refl)
   numbered (MovxWrite r) h = absurd (h refl)
   numbered (Xch c) h = absurd (h refl)
@@ -120,6 +119,11 @@ module _ (program ram : List ℕ) (s : State) (base first second : ℕ) where
   numbered MovAT h = absurd (h refl)
   numbered MovTA h = absurd (h refl)
   numbered Nop h = absurd (h refl)
+
+  -- What an instruction has done to RAM where it is refused: nothing. So a step may write in place and still give RAM back as it came.
+  pub refused-writes :
+      (i : Instruction) → (executed i program ram s base first second .number ≡ 0 → ⊥) → executed i program ram s base first second .write ≡ Nothing
+  refused-writes i h = numbered i h .silent
 
 module _ (program ram : List ℕ) (s : State) (first second : ℕ) where
   abbrev pub G : ℕ → Type 0
@@ -157,6 +161,18 @@ module _ (program ram : List ℕ) (s : State) (first second : ℕ) where
       go true false q hp hr hq e = absurd (omega arith)
       go true true false hp hr hq e = absurd (omega arith)
       go true true true hp hr hq e = record { program-allowed = hp; ram-allowed = hr; state-permitted = hq }
+
+  -- Every chip has 64 bytes of RAM at least.
+  pub roomy : lentNumber (length program) (length ram) s ≡ 0 → 64 ≤ length ram
+  roomy e = go (eqb (length ram) 64) (eqb (length ram) 128) (eqb (length ram) 256) refl refl refl (allowed e .ram-allowed)
+    where
+      go :
+          (x y z : Bool) → eqb (length ram) 64 ≡ x → eqb (length ram) 128 ≡ y → eqb (length ram) 256 ≡ z → (x || y || z) ≡ true
+          → 64 ≤ length ram
+      go true y z p q r h = let n = eqb-true (length ram) 64 p in omega arith
+      go false true z p q r h = let n = eqb-true (length ram) 128 q in omega arith
+      go false false true p q r h = let n = eqb-true (length ram) 256 r in omega arith
+      go false false false p q r h = absurd (false≢true h)
 
   -- Where 1, 2 and 3 are not given, the samples alone decide.
   pub samples-decide : lentNumber (length program) (length ram) s ≡ 0 → admission (length program) (length ram) s first second ≡ sampleNumber first second

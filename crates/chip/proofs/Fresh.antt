@@ -21,15 +21,14 @@ use Rattle.machine.specs.State.{powerUp, withCore, withPc, withCounting}
 use Rattle.machine.specs.declared.Counting.{Counting}
 use Rattle.machine.specs.declared.Counting.the-variants.{Stopped, Timer}
 use Rattle.machine.specs.declared.State.{State}
+use Rattle.effects.specs.Effect.{Effect}
 use Rattle.effects.specs.Moves.{quiet}
-use Rattle.effects.specs.declared.Effect.{Effect}
 use Rattle.flow.specs.Jumps.{jumpIf}
 use Rattle.flow.specs.Stack.{pushed}
 use Rattle.execute.specs.Execute.{executed}
 use Rattle.execute.specs.Setting.{LeavesCounter}
 use Rattle.execute.proofs.Keeping.{keeps}
-use Rattle.chip.specs.Step.{declined, accepted, called, pcAfter, done, carriedBy, carried, course}
-use Rattle.chip.specs.declared.Course.{Course}
+use Rattle.chip.specs.Step.{Course, declined, accepted, called, pcAfter, done, carriedBy, carried, course}
 use Rattle.chip.proofs.Choices.{either}
 
 -- What an instruction does to the counter of one state, which counts cycles, holds 0, and has A = 1: enough to tell those that set it.

@@ -18,13 +18,10 @@ use Rattle.machine.specs.declared.Count.{Count}
 use Rattle.machine.specs.declared.Counting.{Counting}
 use Rattle.machine.specs.declared.Counting.the-variants.{Stopped, Timer, Counter}
 use Rattle.machine.specs.declared.State.{State}
-use Rattle.effects.specs.declared.Effect.{Effect}
-use Rattle.effects.specs.declared.Write.{Write}
-use Rattle.effects.specs.declared.Write.the-variants.{Nothing, Byte, Pair}
+use Rattle.effects.specs.Effect.{Write, Nothing, Byte, Pair, Effect, written}
 use Rattle.execute.proofs.Within.{WithinSizes, push-within, within}
 use Rattle.chip.specs.Admission.{lentNumber}
-use Rattle.chip.specs.Step.{declined, accepted, resetState, called, withoutRequest, pcAfter, done, carriedBy, carried, course, ticked, settled, planOf, stepOf, ramAfter, written}
-use Rattle.chip.specs.declared.Course.{Course}
+use Rattle.chip.specs.Step.{Course, declined, accepted, resetState, called, withoutRequest, pcAfter, done, carriedBy, carried, course, ticked, settled, planOf, stepOf, ramAfter}
 use Rattle.chip.specs.declared.Outcome.{Outcome}
 use Rattle.chip.proofs.Choices.{either}
 use Rattle.chip.proofs.Cycles.{course-number, plan-state}

@@ -18,3 +18,4 @@ pub mod Runs
 pub mod Sharp
 pub mod Starting
 pub mod Story
+mod Turns

@@ -11,11 +11,11 @@ use lib.ListN.{length, getD, drop, length-drop}
 use lib.Seq.{drop-cons}
 use borrow.Author.Tests.{eqb-true, eqb-false, eq-eqb, ne-eqb}
 use Rattle.isa.specs.Choice.{pick}
+use Rattle.effects.specs.Effect.{written}
 use Rattle.effects.specs.declared.Event.{Event}
 use Rattle.chip.specs.Run.{Progress, gone, lastFrom, ended, runOver}
-use Rattle.chip.specs.Step.{planOf, stepOf, ramAfter, written}
+use Rattle.chip.specs.Step.{Plan, planOf, stepOf, ramAfter}
 use Rattle.chip.specs.declared.Outcome.{Outcome}
-use Rattle.chip.specs.declared.Plan.{Plan}
 use Rattle.chip.proofs.Exactly.{refused-unchanged}
 use Rattle.chip.proofs.Lasting.{Busy, plan-busy}
 

@@ -24,8 +24,8 @@ use Rattle.machine.specs.declared.Count.{Count}
 use Rattle.machine.specs.declared.Counting.the-variants.{Timer}
 use Rattle.machine.specs.declared.State.{State}
 use Rattle.machine.proofs.Timing.{At, one-more, leaves-request}
+use Rattle.effects.specs.Effect.{Nothing, written}
 use Rattle.effects.specs.declared.Event.the-variants.{Quiet}
-use Rattle.effects.specs.declared.Write.the-variants.{Nothing}
 use Rattle.flow.specs.Stack.{pushed}
 use Rattle.execute.specs.Execute.{executed}
 use Rattle.execute.specs.Setting.{LeavesCounter}
@@ -35,8 +35,7 @@ use Rattle.chip.specs.History.{planAt, after, none, more, cycle, Undistu
 use Rattle.chip.specs.Loop.{rom, ready, start, samples, Late}
 use Rattle.chip.specs.Refusals.{Fetches}
 use Rattle.chip.specs.Run.{Progress, begun, ended, runOf}
-use Rattle.chip.specs.Step.{accepted, called, withoutRequest, done, carried, course, ticked, settled, planBy, planOf, stepOf, ramAfter, written}
-use Rattle.chip.specs.declared.Plan.{Plan}
+use Rattle.chip.specs.Step.{Plan, accepted, called, withoutRequest, done, carried, course, ticked, settled, planBy, planOf, stepOf, ramAfter}
 use Rattle.chip.proofs.Answering.{step-enabled}
 use Rattle.chip.proofs.Cycles.{Running, at-start, count-law}
 use Rattle.chip.proofs.Demand3.{called-in-time, from-strt-t}

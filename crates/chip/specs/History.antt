@@ -22,9 +22,7 @@ use Rattle.machine.specs.Psw.{sp}
 use Rattle.execute.specs.Setting.{LeavesCounter}
 use Rattle.chip.specs.Admission.{lentNumber}
 use Rattle.chip.specs.Run.{Progress, Ended, begun, gone, ended, runOver, runOf}
-use Rattle.chip.specs.Step.{externalCalls, timerCalls, accepted, called, withoutRequest, course, planOf, remembered}
-use Rattle.chip.specs.declared.Course.{Course}
-use Rattle.chip.specs.declared.Plan.{Plan}
+use Rattle.chip.specs.Step.{Course, Plan, externalCalls, timerCalls, accepted, called, withoutRequest, course, planOf, remembered}
 
 -- ---- one cycle
 -- How the counter counts in it, what the counter holds before it, the step's effects being done, T1's level in it, whether the timer

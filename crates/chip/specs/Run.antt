@@ -7,11 +7,11 @@ use lib.Dec.{eqb}
 use lib.ListN.{length}
 use Rattle.isa.specs.Choice.{pick}
 use Rattle.machine.specs.declared.State.{State}
+use Rattle.effects.specs.Effect.{written}
 use Rattle.effects.specs.declared.Event.{Event}
 use Rattle.effects.specs.declared.Event.the-variants.{Quiet}
 use Rattle.chip.specs.Admission.{lentNumber}
-use Rattle.chip.specs.Step.{planOf, written}
-use Rattle.chip.specs.declared.Plan.{Plan}
+use Rattle.chip.specs.Step.{Plan, planOf}
 use Rattle.chip.specs.declared.Ran.{Ran}
 
 -- How far a run has come: the RAM, the state, the samples used, the cycles spent, and the events of its steps in order.

@@ -5,7 +5,7 @@ use mathlib.Core.Bool.{Bool, true, false, not, _&&_}
 use mathlib.Core.List.{List}
 use mathlib.Core.Path.{_≡_}
 use lib.Dec.{eqb}
-use lib.ListN.{length, set}
+use lib.ListN.{length}
 use Rattle.isa.specs.Choice.{pick}
 use Rattle.isa.specs.Numbers.{Answer, given, refused}
 use Rattle.isa.specs.Reading.{Sized, sized, nextPc, byteAt, instructionAt}
@@ -17,20 +17,32 @@ use Rattle.machine.specs.declared.Count.{Count}
 use Rattle.machine.specs.declared.Counting.{Counting}
 use Rattle.machine.specs.declared.Counting.the-variants.{Stopped}
 use Rattle.machine.specs.declared.State.{State}
+use Rattle.effects.specs.Effect.{Write, Nothing, Effect, written}
 use Rattle.effects.specs.Moves.{quiet}
-use Rattle.effects.specs.declared.Effect.{Effect}
+use Rattle.effects.specs.declared.Event.{Event}
 use Rattle.effects.specs.declared.Event.the-variants.{Quiet}
-use Rattle.effects.specs.declared.Write.{Write}
-use Rattle.effects.specs.declared.Write.the-variants.{Nothing, Byte, Pair}
 use Rattle.flow.specs.Stack.{pushed}
 use Rattle.execute.specs.Execute.{executed}
 use Rattle.chip.specs.Admission.{admission}
-use Rattle.chip.specs.declared.Course.{Course}
+use Rattle.chip.specs.declared.Course as code
 use Rattle.chip.specs.declared.Fetch.{Fetch}
 use Rattle.chip.specs.declared.Outcome.{Outcome}
-use Rattle.chip.specs.declared.Plan.{Plan}
+use Rattle.chip.specs.declared.Turn.{Turn}
+use Rattle.chip.specs.declared.Turn.the-variants.{Refuse, Reset, ExternalCall, TimerCall, CarryOut}
 
 -- What a step does before its cycles are counted: an effect and its cycles, or a refusal, which changes nothing.
+pub record Course : Type 0 where
+  pub number : ℕ
+  pub state : State
+  pub event : Event
+  pub write : Write
+  pub cycles : ℕ
+  pub fresh : Bool
+
+-- The code writes RAM in place, so what it answers is the rest.
+abbrev pub courseAnswer : Course → code.Course
+courseAnswer c = record { number = c .number; state = c .state; event = c .event; cycles = c .cycles; fresh = c .fresh }
+
 unfoldable pub declined : ℕ → State → Course
 declined number s = record { number = number; state = s; event = Quiet; write = Nothing; cycles = 0; fresh = false }
 
@@ -94,15 +106,23 @@ carriedBy (given (sized i n)) program ram s first second =
 unfoldable pub carried : List ℕ → List ℕ → State → ℕ → ℕ → Course
 carried program ram s first second = carriedBy (instructionAt program (s .pc)) program ram s first second
 
+-- The course of a step by its turn: its samples are refused, it is a reset, an interrupt call, or an instruction.
+abbrev pub courseBy : Turn → List ℕ → List ℕ → State → ℕ → ℕ → Course
+courseBy Refuse program ram s first second = declined 6 s
+courseBy Reset program ram s first second = accepted (quiet (resetState s)) 1
+courseBy ExternalCall program ram s first second = accepted (called s 3) 2
+courseBy TimerCall program ram s first second = accepted (called (withoutRequest s) 7) 2
+courseBy CarryOut program ram s first second = carried program ram s first second
+
 -- "Order: 1, 2, 3, 6; then reset; then an interrupt call (neither fetches)"; "External goes first".
 unfoldable pub course : List ℕ → List ℕ → State → ℕ → ℕ → Course
 course program ram s first second =
     pick (not (eqb (admission (length program) (length ram) s first second) 0))
     (declined (admission (length program) (length ram) s first second) s)
-    (pick (isLow resetPin first) (accepted (quiet (resetState s)) 1)
-    (pick (externalCalls s first) (accepted (called s 3) 2)
-    (pick (timerCalls s) (accepted (called (withoutRequest s) 7) 2)
-    (carried program ram s first second))))
+    (pick (isLow resetPin first) (courseBy Reset program ram s first second)
+    (pick (externalCalls s first) (courseBy ExternalCall program ram s first second)
+    (pick (timerCalls s) (courseBy TimerCall program ram s first second)
+    (courseBy CarryOut program ram s first second))))
 
 -- 4. "Then the cycles of the step, an interrupt call's two as well, are counted, one at a time, after its effects. The cycle of STRT T or
 -- STRT CNT itself isn't counted." "T1 is remembered every cycle, reset and STRT CNT too."
@@ -120,8 +140,15 @@ unfoldable pub settled : State → ℕ → Bool → ℕ → ℕ → State
 settled s cycles fresh first second =
     withCount s (ticked (s .counting) (countOf s) cycles fresh (s .interrupts .tcnti) first second)
 
--- The whole step, and what it writes to RAM. "A refused step returns the number, the state it got, no event and 0 cycles; RAM is
--- unchanged."
+-- The whole step, and what it writes to RAM.
+pub record Plan : Type 0 where
+  pub number : ℕ
+  pub state : State
+  pub event : Event
+  pub write : Write
+  pub cycles : ℕ
+
+-- "A refused step returns the number, the state it got, no event and 0 cycles; RAM is unchanged."
 unfoldable pub planBy : Course → State → ℕ → ℕ → Plan
 planBy c s first second =
     pick (eqb (c .number) 0)
@@ -139,12 +166,6 @@ planOf program ram s first second = planBy (course program ram s first second) s
 
 abbrev pub outcomeOf : Plan → Outcome
 outcomeOf p = record { number = p .number; state = p .state; event = p .event; cycles = p .cycles }
-
--- RAM after a write.
-unfoldable pub written : List ℕ → Write → List ℕ
-written ram Nothing = ram
-written ram (Byte at v) = set ram at v
-written ram (Pair at low high) = set (set ram at low) (at + 1) high
 
 -- What a step answers, and the RAM that it leaves.
 abbrev pub stepOf : List ℕ → List ℕ → State → ℕ → ℕ → Outcome

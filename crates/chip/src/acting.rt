@@ -1,44 +1,46 @@
 // What a step does before its cycles are counted: reset, an interrupt call, or one instruction.
 use crate::Course;
+use crate::Turn;
 use effects::Effect;
 use effects::Event;
-use effects::Write;
+use isa::Refusal;
 use machine::Count;
 use machine::Counting;
 use machine::Interrupts;
 use machine::Ports;
 use machine::State;
 use machine::pins;
+ghost use Prim.Native.Nat.{ℕ, _≤_};
+ghost use mathlib.Core.List.{List};
 ghost use mathlib.Core.Path.{_≡_};
 ghost use lib.ListN.{length};
 ghost use Rattle.isa.specs.Table.{packedRows};
+ghost use Rattle.effects.specs.Effect as defined;
+ghost use Rattle.effects.specs.Effect.{answerOf, written};
 ghost use Rattle.chip.specs.Admission.{lentNumber};
-ghost use Rattle.chip.specs.Step.{declined, accepted, resetState, called, withoutRequest, done, carried, course};
+ghost use Rattle.chip.specs.Step.{courseAnswer, declined, accepted, resetState, called, withoutRequest, done, carried, courseBy, course};
 
 fn decline(number: u8, s: State) -> Course
-    ensures { λ r. ⌜ r ≡ declined number s ⌝ }
+    ensures { λ r. ⌜ r ≡ courseAnswer (declined number s) ⌝ }
 {
     Course {
         number,
         state: s,
         event: Event::Quiet,
-        write: Write::Nothing,
         cycles: 0,
         fresh: false,
     }
 }
 
 fn accept(e: Effect, cycles: u8) -> Course
-    ensures { λ r. ⌜ r ≡ accepted e cycles ⌝ }
+    ensures { λ r. ⌜ ((x : defined.Effect) → e ≡ answerOf x → r ≡ courseAnswer (accepted x cycles)) ⌝ }
 {
     let state = e.state;
     let event = e.event;
-    let write = e.write;
     Course {
         number: 0,
         state,
         event,
-        write,
         cycles,
         fresh: e.fresh,
     }
@@ -75,8 +77,10 @@ fn reset(s: State) -> State
     }
 }
 
-fn call(s: State, vector: u16) -> Effect
-    ensures { λ r. ⌜ r ≡ called s vector ⌝ }
+fn call(s: State, ram: &mut [u8], vector: u16) -> Effect
+    requires { ⌜ 64 ≤ length (now ram) ⌝ }
+    ensures answer { λ r. ⌜ r ≡ answerOf (called s vector) ⌝ }
+    ensures memory { λ r. ⌜ now (ram .exit) ≡ written (now (ram .entry)) (called s vector .write) ⌝ }
 {
     let i = s.interrupts;
     let t = s.with_interrupts(Interrupts {
@@ -84,7 +88,7 @@ fn call(s: State, vector: u16) -> Effect
         tcnti: i.tcnti,
         service: true,
     });
-    flow::stack::push(t, vector)
+    flow::stack::push(t, ram, vector)
 }
 
 fn without_request(s: State) -> State
@@ -100,7 +104,7 @@ fn without_request(s: State) -> State
 }
 
 fn finish(e: Effect, cycles: u8, s: State) -> Course
-    ensures { λ r. ⌜ r ≡ done e cycles s ⌝ }
+    ensures { λ r. ⌜ ((x : defined.Effect) → e ≡ answerOf x → r ≡ courseAnswer (done x cycles s)) ⌝ }
 {
     if e.number != 0 {
         return decline(e.number, s);
@@ -111,13 +115,15 @@ fn finish(e: Effect, cycles: u8, s: State) -> Course
 fn carry_out(
     table: &[u16; 256],
     program: &[u8],
-    ram: &[u8],
+    ram: &mut [u8],
     s: State,
     first: u32,
     second: u32,
 ) -> Course
     requires { ⌜ now table ≡ packedRows ⌝ }
-    ensures { λ r. ⌜ r ≡ carried (now (program .entry)) (now (ram .entry)) s first second ⌝ }
+    requires { ⌜ 64 ≤ length (now ram) ⌝ }
+    ensures answer { λ r. ⌜ r ≡ courseAnswer (carried (now (program .entry)) (now (ram .entry)) s first second) ⌝ }
+    ensures memory { λ r. ⌜ now (ram .exit) ≡ written (now (ram .entry)) (carried (now (program .entry)) (now (ram .entry)) s first second .write) ⌝ }
 {
     let f = crate::fetching::fetch_at(table, program, s.pc);
     if f.number != 0 {
@@ -128,34 +134,56 @@ fn carry_out(
     finish(e, f.cycles, s)
 }
 
+// The turn of a step. It is nearly always an instruction's, so that is looked for first: no sample is refused, RESET and INT are high, and
+// no request is stored. These exclude all other turns (the law `usual`).
+fn turn_of(s: State, first: u32, second: u32) -> Turn
+    ensures { λ t. ⌜ ((program ram : List ℕ) → lentNumber (length program) (length ram) s ≡ 0 → course program ram s first second ≡ courseBy t program ram s first second) ⌝ }
+{
+    let allowed = crate::admission::samples_allowed(first, second);
+    let usual = allowed
+        & (first / pins::RESET % 2 == 1)
+        & (first / pins::INT % 2 == 1)
+        & !s.request;
+    if usual {
+        return Turn::CarryOut;
+    }
+    if !allowed {
+        return Turn::Refuse;
+    }
+    let resets = first / pins::RESET % 2 == 0;
+    if resets {
+        return Turn::Reset;
+    }
+    let i = s.interrupts;
+    let external = !i.service & i.external & (first / pins::INT % 2 == 0);
+    if external {
+        return Turn::ExternalCall;
+    }
+    let timer = !i.service & i.tcnti & s.request;
+    if timer {
+        return Turn::TimerCall;
+    }
+    Turn::CarryOut
+}
+
 pub fn course_of(
     table: &[u16; 256],
     program: &[u8],
-    ram: &[u8],
+    ram: &mut [u8],
     s: State,
     first: u32,
     second: u32,
 ) -> Course
     requires { ⌜ now table ≡ packedRows ⌝ }
     requires { ⌜ lentNumber (length (now program)) (length (now ram)) s ≡ 0 ⌝ }
-    ensures { λ r. ⌜ r ≡ course (now (program .entry)) (now (ram .entry)) s first second ⌝ }
+    ensures answer { λ r. ⌜ r ≡ courseAnswer (course (now (program .entry)) (now (ram .entry)) s first second) ⌝ }
+    ensures memory { λ r. ⌜ now (ram .exit) ≡ written (now (ram .entry)) (course (now (program .entry)) (now (ram .entry)) s first second .write) ⌝ }
 {
-    let number = crate::admission::sample_number(first, second);
-    if number != 0 {
-        return decline(number, s);
+    match turn_of(s, first, second) {
+        Turn::Refuse => decline(isa::number(Refusal::SampleBits), s),
+        Turn::Reset => accept(effects::quiet_effect(reset(s)), 1),
+        Turn::ExternalCall => accept(call(s, ram, State::EXTERNAL_VECTOR), 2),
+        Turn::TimerCall => accept(call(without_request(s), ram, State::TIMER_VECTOR), 2),
+        Turn::CarryOut => carry_out(table, program, ram, s, first, second),
     }
-    let resets = first / pins::RESET % 2 == 0;
-    if resets {
-        return accept(effects::quiet_effect(reset(s)), 1);
-    }
-    let i = s.interrupts;
-    let external = !i.service & i.external & (first / pins::INT % 2 == 0);
-    if external {
-        return accept(call(s, State::EXTERNAL_VECTOR), 2);
-    }
-    let timer = !i.service & i.tcnti & s.request;
-    if timer {
-        return accept(call(without_request(s), State::TIMER_VECTOR), 2);
-    }
-    carry_out(table, program, ram, s, first, second)
 }

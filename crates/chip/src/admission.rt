@@ -2,8 +2,9 @@
 use isa::Refusal;
 use machine::State;
 use machine::pins;
+ghost use mathlib.Core.Bool.{_&&_};
 ghost use mathlib.Core.Path.{_≡_};
-ghost use Rattle.chip.specs.Admission.{lentNumber, sampleNumber};
+ghost use Rattle.chip.specs.Admission.{sampleAllowed, lentNumber};
 
 // 1, 2 or 3; 0 if none.
 pub fn lent_number(program: usize, ram: usize, s: State) -> u8
@@ -26,13 +27,9 @@ pub fn lent_number(program: usize, ram: usize, s: State) -> u8
     0
 }
 
-// 6 for the samples; 0 if they are allowed.
-pub fn sample_number(first: u32, second: u32) -> u8
-    ensures { λ n. ⌜ n ≡ sampleNumber first second ⌝ }
+// Whether both samples are allowed; if not, 6.
+pub fn samples_allowed(first: u32, second: u32) -> bool
+    ensures { λ r. ⌜ r ≡ (sampleAllowed first && sampleAllowed second) ⌝ }
 {
-    let plain = (first < pins::LIMIT) & (second < pins::LIMIT);
-    if !plain {
-        return isa::number(Refusal::SampleBits);
-    }
-    0
+    (first < pins::LIMIT) & (second < pins::LIMIT)
 }

@@ -1,6 +1,5 @@
 // The chip: one step, and a run over many.
 use effects::Event;
-use effects::Write;
 use machine::Count;
 use machine::Counting;
 use machine::State;
@@ -11,12 +10,11 @@ ghost use lib.ListN.{length};
 ghost use Rattle.isa.specs.Table.{packedRows};
 ghost use Rattle.chip.specs.Admission.{lentNumber};
 ghost use Rattle.chip.specs.Run.{begun, runOver, runOf};
-ghost use Rattle.chip.specs.Step.{planOf, stepOf, ramAfter, settled, ticked};
+ghost use Rattle.chip.specs.Step.{stepOf, ramAfter, settled, ticked};
 
 mod admission; // 1, 2, 3, 6
 mod acting; // reset, interrupt calls, one instruction
 mod fetching; // the bytes at PC
-mod storing; // what a step writes
 
 // What is fetched at PC. `number` is 0, or the refusal's number and all else is 0.
 pub struct Fetch {
@@ -29,23 +27,24 @@ pub struct Fetch {
     pub cycles: u8,
 }
 
-// What a step does before its cycles are counted.
+// What a step's turn is. Each goes before those below it.
+pub enum Turn {
+    // a sample has one of bits 28 to 31
+    Refuse,
+    Reset,
+    ExternalCall,
+    TimerCall,
+    // one instruction
+    CarryOut,
+}
+
+// What a step does before its cycles are counted, besides writing to RAM, which it does in place.
 pub struct Course {
     pub number: u8,
     pub state: State,
     pub event: Event,
-    pub write: Write,
     pub cycles: u8,
     pub fresh: bool,
-}
-
-// A whole step, and what it is to write to RAM.
-pub struct Plan {
-    pub number: u8,
-    pub state: State,
-    pub event: Event,
-    pub write: Write,
-    pub cycles: u8,
 }
 
 // What a step answers: the refusal's number or 0, the state, the event and the machine cycles spent.
@@ -103,42 +102,8 @@ fn settle(s: State, cycles: u8, fresh: bool, first: u32, second: u32) -> State
     s.with_count(tick(counting, s.count(), cycles, fresh, i.tcnti, first, second))
 }
 
-// The whole step, without its write to RAM. 1, 2 and 3 are not given: `step` asks before, and `run` once, since an accepted step leaves it
-// so (the law `still-stands`).
-fn plan_step(
-    table: &[u16; 256],
-    program: &[u8],
-    ram: &[u8],
-    s: State,
-    first: u32,
-    second: u32,
-) -> Plan
-    requires { ⌜ now table ≡ packedRows ⌝ }
-    requires { ⌜ lentNumber (length (now program)) (length (now ram)) s ≡ 0 ⌝ }
-    ensures { λ r. ⌜ r ≡ planOf (now (program .entry)) (now (ram .entry)) s first second ⌝ }
-{
-    let c = acting::course_of(table, program, ram, s, first, second);
-    let event = c.event;
-    let write = c.write;
-    if c.number != 0 {
-        return Plan {
-            number: c.number,
-            state: s,
-            event: Event::Quiet,
-            write: Write::Nothing,
-            cycles: 0,
-        };
-    }
-    let state = settle(c.state, c.cycles, c.fresh, first, second);
-    Plan {
-        number: 0,
-        state,
-        event,
-        write,
-        cycles: c.cycles,
-    }
-}
-
+// The whole step. 1, 2 and 3 are not given: `step` asks before, and `run` once, since an accepted step leaves it so (the law
+// `still-stands`). A refused one has written nothing to RAM (the laws `refused-writes` and `plan-writes`).
 fn do_step(
     table: &[u16; 256],
     program: &[u8],
@@ -152,16 +117,22 @@ fn do_step(
     ensures answer { λ r. ⌜ r ≡ stepOf (now (program .entry)) (now (ram .entry)) s first second ⌝ }
     ensures memory { λ r. ⌜ now (ram .exit) ≡ ramAfter (now (program .entry)) (now (ram .entry)) s first second ⌝ }
 {
-    let p = plan_step(table, program, &ram[..], s, first, second);
-    let write = p.write;
-    storing::apply(ram, write);
-    let state = p.state;
-    let event = p.event;
+    let c = acting::course_of(table, program, ram, s, first, second);
+    let event = c.event;
+    if c.number != 0 {
+        return Outcome {
+            number: c.number,
+            state: s,
+            event: Event::Quiet,
+            cycles: 0,
+        };
+    }
+    let state = settle(c.state, c.cycles, c.fresh, first, second);
     Outcome {
-        number: p.number,
+        number: 0,
         state,
         event,
-        cycles: p.cycles,
+        cycles: c.cycles,
     }
 }
 

@@ -1,3 +1,4 @@
+pub mod Effect
 pub mod Events
 pub mod Memory
 pub mod Moves

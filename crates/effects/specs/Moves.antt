@@ -6,10 +6,9 @@ use mathlib.Core.List.{List}
 use Rattle.isa.specs.Reading.{byteAt}
 use Rattle.machine.specs.State.{withA}
 use Rattle.machine.specs.declared.State.{State}
-use Rattle.effects.specs.declared.Effect.{Effect}
+use Rattle.effects.specs.Effect.{Effect, Nothing, Byte}
 use Rattle.effects.specs.declared.Event.{Event}
 use Rattle.effects.specs.declared.Event.the-variants.{Quiet}
-use Rattle.effects.specs.declared.Write.the-variants.{Nothing, Byte}
 
 -- The state changes, and nothing else happens.
 abbrev pub quiet : State → Effect

@@ -14,8 +14,8 @@ use Rattle.isa.specs.declared.Latch.the-variants.{Bus, Port}
 use Rattle.machine.specs.Pins.{busPins, p1Pins, p2Pins}
 use Rattle.machine.specs.State.{withA, withPorts}
 use Rattle.machine.specs.declared.State.{State}
+use Rattle.effects.specs.Effect.{Effect}
 use Rattle.effects.specs.Moves.{signalled}
-use Rattle.effects.specs.declared.Effect.{Effect}
 use Rattle.effects.specs.declared.Event.the-variants.{ExpanderMove}
 
 -- A port is P1 or P2, and a code holds no other: what is not 1 is P2, here and below.

@@ -3,6 +3,9 @@ use isa::DigitMove;
 use isa::Refusal;
 use machine::State;
 ghost use mathlib.Core.Path.{_≡_};
+ghost use Prim.Native.Nat.{_<_};
+ghost use lib.ListN.{length};
+ghost use Rattle.effects.specs.Effect.{answerOf, written};
 ghost use Rattle.effects.specs.Moves.{quiet, stored, signalled, started, lacking};
 
 pub mod memory; // registers and RAM
@@ -20,81 +23,65 @@ pub enum Event {
     ExpanderMove(DigitMove, u8, u8),
 }
 
-// What is to be written to RAM.
-pub enum Write {
-    Nothing,
-    Byte(usize, u8),
-    // two cells, one after the other
-    Pair(usize, u8, u8),
-}
-
-// What an instruction does. RAM is only read: what is to be written stands in `write`.
+// What an instruction does besides writing to RAM, which it does in place.
 pub struct Effect {
     // 5 if a table byte is past the program's end, else 0
     pub number: u8,
     pub state: State,
     pub event: Event,
-    pub write: Write,
     // the instruction has started the counter, so that its own cycle isn't counted
     pub fresh: bool,
 }
 
 pub fn quiet_effect(s: State) -> Effect
-    ensures { λ r. ⌜ r ≡ quiet s ⌝ }
+    ensures { λ r. ⌜ r ≡ answerOf (quiet s) ⌝ }
 {
     Effect {
         number: 0,
         state: s,
         event: Event::Quiet,
-        write: Write::Nothing,
         fresh: false,
     }
 }
 
-pub fn stored_effect(s: State, at: usize, v: u8) -> Effect
-    ensures { λ r. ⌜ r ≡ stored s at v ⌝ }
+pub fn stored_effect(s: State, ram: &mut [u8], at: usize, v: u8) -> Effect
+    requires { ⌜ at < length (now ram) ⌝ }
+    ensures answer { λ r. ⌜ r ≡ answerOf (stored s at v) ⌝ }
+    ensures memory { λ r. ⌜ now (ram .exit) ≡ written (now (ram .entry)) (stored s at v .write) ⌝ }
 {
-    Effect {
-        number: 0,
-        state: s,
-        event: Event::Quiet,
-        write: Write::Byte(at, v),
-        fresh: false,
-    }
+    memory::store(ram, at, v);
+    quiet_effect(s)
 }
 
 pub fn signalled_effect(s: State, e: Event) -> Effect
-    ensures { λ r. ⌜ r ≡ signalled s e ⌝ }
+    ensures { λ r. ⌜ r ≡ answerOf (signalled s e) ⌝ }
 {
     Effect {
         number: 0,
         state: s,
         event: e,
-        write: Write::Nothing,
         fresh: false,
     }
 }
 
 pub fn started_effect(s: State) -> Effect
-    ensures { λ r. ⌜ r ≡ started s ⌝ }
+    ensures { λ r. ⌜ r ≡ answerOf (started s) ⌝ }
 {
     Effect {
         number: 0,
         state: s,
         event: Event::Quiet,
-        write: Write::Nothing,
         fresh: true,
     }
 }
 
 pub fn lacking_effect(s: State) -> Effect
-    ensures { λ r. ⌜ r ≡ lacking s ⌝ }
+    ensures { λ r. ⌜ r ≡ answerOf (lacking s) ⌝ }
 {
     Effect {
         number: isa::number(Refusal::PastEnd),
         state: s,
         event: Event::Quiet,
-        write: Write::Nothing,
         fresh: false,
     }
 }

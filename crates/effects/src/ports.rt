@@ -8,6 +8,7 @@ use machine::Ports;
 use machine::State;
 use machine::pins;
 ghost use mathlib.Core.Path.{_≡_};
+ghost use Rattle.effects.specs.Effect.{answerOf};
 ghost use Rattle.effects.specs.Ports.{input, latchOf, output, joined, expanderMoved};
 
 // IN and INS: for a port, what is high on both its latch and its pins.
@@ -78,7 +79,7 @@ pub fn join_latch(op: Join, x: u8, d: u8) -> u8
 }
 
 pub fn move_digit(op: DigitMove, p: u8, s: State, second: u32) -> Effect
-    ensures { λ r. ⌜ r ≡ expanderMoved op p s second ⌝ }
+    ensures { λ r. ⌜ r ≡ answerOf (expanderMoved op p s second) ⌝ }
 {
     match op {
         DigitMove::MovdRead => crate::signalled_effect(

@@ -26,8 +26,8 @@ use Rattle.isa.specs.declared.Unary.the-variants.{CplA, ClrA, DaA, DecA, IncA, 
 use Rattle.machine.specs.State.{withA}
 use Rattle.machine.specs.declared.State.{State}
 use Rattle.accumulator.specs.Accumulator.{operated, withAC, lowAdjusted, highAdjusted, changed}
+use Rattle.effects.specs.Effect.{Effect}
 use Rattle.effects.specs.Ports.{input, output, expanderMoved}
-use Rattle.effects.specs.declared.Effect.{Effect}
 use Rattle.flow.specs.Control.{cleared, complemented, switched}
 use Rattle.flow.specs.Jumps.{jumpIf, branched}
 use Rattle.flow.specs.Stack.{pushed}

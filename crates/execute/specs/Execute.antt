@@ -9,11 +9,11 @@ use Rattle.isa.specs.declared.Instruction.the-variants.{Alu, Accumulator, Djnz,
 use Rattle.machine.specs.State.{withA, withPc, withPsw, withCount}
 use Rattle.machine.specs.declared.State.{State}
 use Rattle.accumulator.specs.Accumulator.{operated, changed}
+use Rattle.effects.specs.Effect.{Effect}
 use Rattle.effects.specs.Memory.{registerAt, indirectAt, placeOf, sourceOf}
 use Rattle.effects.specs.Moves.{quiet, stored, signalled, exchanged, digitsExchanged, raised}
 use Rattle.machine.specs.Pins.{busPins}
 use Rattle.effects.specs.Ports.{input, latchOf, output, joined, expanderMoved}
-use Rattle.effects.specs.declared.Effect.{Effect}
 use Rattle.effects.specs.declared.Event.the-variants.{ExternalRead, ExternalWrite}
 use Rattle.flow.specs.Control.{cleared, complemented, switched}
 use Rattle.flow.specs.Jumps.{farTarget, branched, decremented, tableLoaded, tableJumped}

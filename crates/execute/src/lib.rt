@@ -15,6 +15,9 @@ use isa::pages;
 use machine::Count;
 use machine::State;
 ghost use mathlib.Core.Path.{_≡_};
+ghost use Prim.Native.Nat.{_≤_};
+ghost use lib.ListN.{length};
+ghost use Rattle.effects.specs.Effect.{answerOf, written};
 ghost use Rattle.execute.specs.Execute.{executed, withT};
 
 // MOV T,A
@@ -34,18 +37,20 @@ fn with_t(s: State, t: u8) -> State
 pub fn execute(
     i: Instruction,
     program: &[u8],
-    ram: &[u8],
+    ram: &mut [u8],
     s: State,
     base: u16,
     first: u32,
     second: u32,
 ) -> Effect
-    ensures { λ r. ⌜ r ≡ executed i (now (program .entry)) (now (ram .entry)) s base first second ⌝ }
+    requires { ⌜ 64 ≤ length (now ram) ⌝ }
+    ensures answer { λ r. ⌜ r ≡ answerOf (executed i (now (program .entry)) (now (ram .entry)) s base first second) ⌝ }
+    ensures memory { λ r. ⌜ now (ram .exit) ≡ written (now (ram .entry)) (executed i (now (program .entry)) (now (ram .entry)) s base first second .write) ⌝ }
 {
     match i {
         Instruction::Alu(op, from) => quiet_effect(accumulator::operate(
             op,
-            memory::source(from, ram, s.psw),
+            memory::source(from, &ram[..], s.psw),
             s,
         )),
         Instruction::Accumulator(op) => quiet_effect(accumulator::change(op, s)),
@@ -54,23 +59,35 @@ pub fn execute(
         Instruction::Jmp(a) => quiet_effect(s.with_pc(jumps::far_target(s, a))),
         Instruction::Jmpp => jumps::jump_by_table(program, s, base, pages::jmpp_address(base, s.a)),
         Instruction::Control(op) => control::switch(op, s),
-        Instruction::MovA(from) => quiet_effect(s.with_a(memory::source(from, ram, s.psw))),
-        Instruction::Mov(to) => stored_effect(s, memory::place(to, ram, s.psw), s.a),
-        Instruction::MovData(to, d) => stored_effect(s, memory::place(to, ram, s.psw), d),
+        Instruction::MovA(from) => quiet_effect(s.with_a(memory::source(from, &ram[..], s.psw))),
+        Instruction::Mov(to) => {
+            let at = memory::place(to, &ram[..], s.psw);
+            stored_effect(s, ram, at, s.a)
+        },
+        Instruction::MovData(to, d) => {
+            let at = memory::place(to, &ram[..], s.psw);
+            stored_effect(s, ram, at, d)
+        },
         Instruction::MovAPsw => quiet_effect(s.with_a(s.psw)),
         Instruction::MovPswA => quiet_effect(s.with_psw(s.a / 16 * 16 + 8 + s.a % 8)),
         Instruction::Movp => jumps::load_table(program, s, base, pages::movp_address(base, s.a)),
         Instruction::Movp3 => jumps::load_table(program, s, base, pages::movp3_address(base, s.a)),
         Instruction::MovxRead(r) => signalled_effect(
             s.with_a((second % 256) as u8),
-            Event::ExternalRead(memory::cell(ram, memory::register(s.psw, r))),
+            Event::ExternalRead(memory::cell(&ram[..], memory::register(s.psw, r))),
         ),
         Instruction::MovxWrite(r) => signalled_effect(
             s,
-            Event::ExternalWrite(memory::cell(ram, memory::register(s.psw, r)), s.a),
+            Event::ExternalWrite(memory::cell(&ram[..], memory::register(s.psw, r)), s.a),
         ),
-        Instruction::Xch(c) => moves::exchange(s, ram, memory::place(c, ram, s.psw)),
-        Instruction::Xchd(r) => moves::exchange_digits(s, ram, memory::indirect(ram, s.psw, r)),
+        Instruction::Xch(c) => {
+            let at = memory::place(c, &ram[..], s.psw);
+            moves::exchange(s, ram, at)
+        },
+        Instruction::Xchd(r) => {
+            let at = memory::indirect(&ram[..], s.psw, r);
+            moves::exchange_digits(s, ram, at)
+        },
         Instruction::Cpl(f) => quiet_effect(control::complement(f, s)),
         Instruction::Clr(f) => quiet_effect(control::clear(f, s)),
         Instruction::Logic(op, l, d) => quiet_effect(ports::write_latch(
@@ -82,10 +99,13 @@ pub fn execute(
         Instruction::Outl(l) => quiet_effect(ports::write_latch(l, s, s.a)),
         Instruction::Expander(op, p) => ports::move_digit(op, p, s, second),
         Instruction::Dec(r) => moves::raise(s, ram, memory::register(s.psw, r), 255),
-        Instruction::Inc(c) => moves::raise(s, ram, memory::place(c, ram, s.psw), 1),
-        Instruction::Call(a) => stack::push(s, jumps::far_target(s, a)),
-        Instruction::Ret => quiet_effect(stack::ret(s, ram)),
-        Instruction::Retr => quiet_effect(stack::retr(s, ram)),
+        Instruction::Inc(c) => {
+            let at = memory::place(c, &ram[..], s.psw);
+            moves::raise(s, ram, at, 1)
+        },
+        Instruction::Call(a) => stack::push(s, ram, jumps::far_target(s, a)),
+        Instruction::Ret => quiet_effect(stack::ret(s, &ram[..])),
+        Instruction::Retr => quiet_effect(stack::retr(s, &ram[..])),
         Instruction::MovAT => quiet_effect(s.with_a(s.t)),
         Instruction::MovTA => quiet_effect(with_t(s, s.a)),
         Instruction::Nop => quiet_effect(s),

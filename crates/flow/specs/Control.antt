@@ -9,9 +9,9 @@ use Rattle.isa.specs.declared.Switch.the-variants.{EnI, DisI, Ent0Clk, SelMb0, 
 use Rattle.machine.specs.State.{withPsw, withFlags, withCount, withCounting, withInterrupts}
 use Rattle.machine.specs.declared.Counting.the-variants.{Stopped, Timer, Counter}
 use Rattle.machine.specs.declared.State.{State}
+use Rattle.effects.specs.Effect.{Effect}
 use Rattle.effects.specs.Moves.{quiet, started}
 use Rattle.machine.specs.Psw.{bitC, bitF0, withC, withF0, withBs}
-use Rattle.effects.specs.declared.Effect.{Effect}
 
 abbrev pub withF1 : State → Bool → State
 withF1 s f1 = withFlags s f1 (s .dbf) (s .clock)

@@ -11,10 +11,10 @@ use Rattle.isa.specs.declared.Condition.{Condition}
 use Rattle.isa.specs.declared.Condition.the-variants.{Jb, Jc, Jf0, Jf1, Jnc, Jni, Jnt0, Jnt1, Jnz, Jtf, Jt0, Jt1, Jz}
 use Rattle.machine.specs.State.{withA, withPc, withCount}
 use Rattle.machine.specs.declared.State.{State}
+use Rattle.effects.specs.Effect.{Effect}
 use Rattle.effects.specs.Moves.{quiet, stored, lacking}
 use Rattle.machine.specs.Pins.{t0Pin, t1Pin, intPin, isHigh, isLow}
 use Rattle.machine.specs.Psw.{bitC, bitF0}
-use Rattle.effects.specs.declared.Effect.{Effect}
 
 -- "JMP and CALL put DBF in bit 11, or 0 while in service."
 abbrev pub farTarget : State → ℕ → ℕ

@@ -7,9 +7,8 @@ use Rattle.isa.specs.Reading.{byteAt}
 use Rattle.machine.specs.State.{withCore, withInterrupts}
 use Rattle.machine.specs.declared.State.{State}
 use Rattle.machine.specs.Psw.{sp, withSp}
-use Rattle.effects.specs.declared.Effect.{Effect}
+use Rattle.effects.specs.Effect.{Effect, Pair}
 use Rattle.effects.specs.declared.Event.the-variants.{Quiet}
-use Rattle.effects.specs.declared.Write.the-variants.{Pair}
 
 unfoldable pub pushed : State → ℕ → Effect
 pushed s to =

@@ -7,6 +7,7 @@ use machine::Counting;
 use machine::Interrupts;
 use machine::State;
 ghost use mathlib.Core.Path.{_≡_};
+ghost use Rattle.effects.specs.Effect.{answerOf};
 ghost use Rattle.flow.specs.Control.{withF1, withDbf, cleared, complemented, externalEnabled, tcntiEnabled, switched};
 
 fn with_f1(s: State, f1: bool) -> State
@@ -71,7 +72,7 @@ fn enable_tcnti(on: bool, s: State) -> State
 }
 
 pub fn switch(op: Switch, s: State) -> Effect
-    ensures { λ r. ⌜ r ≡ switched op s ⌝ }
+    ensures { λ r. ⌜ r ≡ answerOf (switched op s) ⌝ }
 {
     match op {
         Switch::EnI => effects::quiet_effect(enable_external(true, s)),

@@ -1,11 +1,15 @@
 // Jumps, and table bytes; `base` is the address of the instruction's first byte.
 use effects::Effect;
+use effects::memory;
 use isa::Condition;
 use isa::pages;
 use machine::Count;
 use machine::State;
 use machine::pins;
 ghost use mathlib.Core.Path.{_≡_};
+ghost use Prim.Native.Nat.{_<_};
+ghost use lib.ListN.{length};
+ghost use Rattle.effects.specs.Effect.{answerOf, written};
 ghost use Rattle.flow.specs.Jumps.{farTarget, jumpIf, withoutTf, branched, decremented, tableLoaded, tableJumped};
 
 pub fn far_target(s: State, a: u16) -> u16
@@ -58,16 +62,18 @@ pub fn branch(c: Condition, s: State, base: u16, d: u8, first: u32) -> State
     }
 }
 
-pub fn djnz(s: State, ram: &[u8], at: usize, base: u16, d: u8) -> Effect
-    ensures { λ r. ⌜ r ≡ decremented s (now (ram .entry)) at base d ⌝ }
+pub fn djnz(s: State, ram: &mut [u8], at: usize, base: u16, d: u8) -> Effect
+    requires { ⌜ at < length (now ram) ⌝ }
+    ensures answer { λ r. ⌜ r ≡ answerOf (decremented s (now (ram .entry)) at base d) ⌝ }
+    ensures memory { λ r. ⌜ now (ram .exit) ≡ written (now (ram .entry)) (decremented s (now (ram .entry)) at base d .write) ⌝ }
 {
-    let v = ((effects::memory::cell(ram, at) as u16 + 255) % 256) as u8;
-    effects::stored_effect(jump_if(v != 0, s, base, d), at, v)
+    let v = ((memory::cell(&ram[..], at) as u16 + 255) % 256) as u8;
+    effects::stored_effect(jump_if(v != 0, s, base, d), ram, at, v)
 }
 
 // MOVP and MOVP3.
 pub fn load_table(program: &[u8], s: State, base: u16, address: u16) -> Effect
-    ensures { λ r. ⌜ r ≡ tableLoaded (now (program .entry)) s base address ⌝ }
+    ensures { λ r. ⌜ r ≡ answerOf (tableLoaded (now (program .entry)) s base address) ⌝ }
 {
     let at = address as usize;
     if program.len() <= at {
@@ -78,7 +84,7 @@ pub fn load_table(program: &[u8], s: State, base: u16, address: u16) -> Effect
 
 // JMPP.
 pub fn jump_by_table(program: &[u8], s: State, base: u16, address: u16) -> Effect
-    ensures { λ r. ⌜ r ≡ tableJumped (now (program .entry)) s base address ⌝ }
+    ensures { λ r. ⌜ r ≡ answerOf (tableJumped (now (program .entry)) s base address) ⌝ }
 {
     let at = address as usize;
     if program.len() <= at {

@@ -2,6 +2,7 @@
 use crate::Count;
 use crate::Counting;
 use crate::State;
+ghost use mathlib.Core.Bool.{Bool};
 ghost use mathlib.Core.Path.{_≡_};
 ghost use Rattle.machine.specs.Counting.{advanced, counted};
 
@@ -10,9 +11,13 @@ pub fn count_cycle(counting: Counting, c: Count, t1: bool, enabled: bool) -> Cou
     ensures { λ r. ⌜ r ≡ counted counting c t1 enabled ⌝ }
 {
     match counting {
-        Counting::Stopped => advance(c, c.divider, 0, t1, enabled),
+        Counting::Stopped => keep(c, c.divider, t1),
         Counting::Timer => {
             let next = c.divider as u16 + 1;
+            // The usual cycle leaves T alone, and so leaves here.
+            if next < State::DIVIDER_LIMIT {
+                return keep(c, next as u8, t1);
+            }
             advance(
                 c,
                 (next % State::DIVIDER_LIMIT) as u8,
@@ -23,8 +28,24 @@ pub fn count_cycle(counting: Counting, c: Count, t1: bool, enabled: bool) -> Cou
         }
         Counting::Counter => {
             let fall = c.last & !t1;
-            advance(c, c.divider, fall as u8, t1, enabled)
+            if fall {
+                return advance(c, c.divider, 1, t1, enabled);
+            }
+            keep(c, c.divider, t1)
         }
+    }
+}
+
+// The divider becomes `divider`, T stays, and T1's level is remembered.
+fn keep(c: Count, divider: u8, t1: bool) -> Count
+    ensures { λ r. ⌜ ((enabled : Bool) → r ≡ advanced c divider 0 t1 enabled) ⌝ }
+{
+    Count {
+        t: c.t,
+        divider,
+        tf: c.tf,
+        request: c.request,
+        last: t1,
     }
 }
 

@@ -11,13 +11,12 @@ use lib.ListN.{length}
 use borrow.Author.Tests.{eqb-true, eqb-false, eq-eqb, ne-eqb}
 use Rattle.isa.specs.Choice.{pick}
 use Rattle.machine.specs.declared.State.{State}
+use Rattle.effects.specs.Effect.{Nothing, written}
 use Rattle.effects.specs.declared.Event.the-variants.{Quiet}
-use Rattle.effects.specs.declared.Write.the-variants.{Nothing}
 use Rattle.chip.specs.Admission.{lentNumber, admission}
 use Rattle.chip.specs.Run.{Ended, begun, runOver, runOf}
-use Rattle.chip.specs.Step.{declined, course, planBy, planOf, stepOf, ramAfter, written}
+use Rattle.chip.specs.Step.{Plan, declined, course, planBy, planOf, stepOf, ramAfter}
 use Rattle.chip.specs.declared.Outcome.{Outcome}
-use Rattle.chip.specs.declared.Plan.{Plan}
 use Rattle.chip.specs.declared.Ran.{Ran}
 use Rattle.chip.proofs.Exactly.{Unchanged, refused-unchanged}
 use Rattle.chip.proofs.Lasting.{Busy, plan-busy}

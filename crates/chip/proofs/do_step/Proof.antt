@@ -1,14 +1,32 @@
--- `chip::do_step` meets its contract.
+-- `chip::do_step` meets its contract: what its course writes is what the step does.
 -- Assumes nothing.
 use borrow.Author.Needs.{needs}
+use borrow.Author.Tests.{eq-eqb, ne-eqb}
+use Rattle.isa.specs.Choice.{pick}
+use Rattle.chip.specs.Step.{planBy}
+use Rattle.chip.proofs.Lasting.{plan-writes}
 use Rattle.chip.proofs.do_step.Statement.{statement}
 use Rattle.chip.proofs.do_step.Tie as tie
 
-returns : tie.Need-returns
-returns c = (
-  rw (c .before .before .before .before .before .plan-step .ensures),
-  rw (c .before .before .before .apply .ensures, c .before .before .before .before .before .plan-step .ensures),
-)
+refused : tie.Need-returns
+unfolding planBy pick
+refused c =
+    let e = c .before .before .before .before .course-of .ensures in
+    (rw (e .0, ne-eqb _ _ (rw (e .0) at (c .if1 .taken))), rw (plan-writes _ _ _ _ _) (e .1))
+
+accepted : tie.Need-returns-2
+unfolding planBy pick
+accepted c =
+    let e = c .before .before .before .before .before .course-of .ensures in
+    (rw (c .settle .ensures, e .0, eq-eqb _ _ (rw (e .0) at (c .before .if1 .left))), rw (plan-writes _ _ _ _ _) (e .1))
 
 pub do-step-spec : {M : Type 1} → statement M
-do-step-spec = tie.close (tie.spec (λ c κs. search needs) (λ c κs. search needs) (λ c. search needs) returns)
+do-step-spec =
+    tie.close
+    (tie.spec
+    (λ c κs. search needs)
+    (λ c. search needs)
+    refused
+    (λ c κs. search needs)
+    (λ c. search needs)
+    accepted)

@@ -9,8 +9,10 @@ use Rattle.chip.proofs.acting.finish.Tie as tie
 
 pub finish-spec : {M : Type 1} → statement M
 unfolding done pick
-finish-spec = tie.close (tie.spec
+finish-spec =
+    tie.close
+    (tie.spec
     (λ c κs. search needs)
-    (λ c. rw (c .decline .ensures, ne-eqb _ _ (c .before .if1 .taken)))
+    (λ c x e. rw (ne-eqb _ _ (rw e at (c .before .if1 .taken))) (rw e at (c .decline .ensures)))
     (λ c κs. search needs)
-    (λ c. rw (c .accept .ensures, eq-eqb _ _ (c .before .if1 .left))))
+    (λ c x e. rw (eq-eqb _ _ (rw e at (c .before .if1 .left))) (c .accept .ensures x e)))

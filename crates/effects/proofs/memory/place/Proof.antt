@@ -1,5 +1,6 @@
 -- `effects::memory::place` meets its contract.
 -- Assumes nothing.
+use native.Mathlib.Omega.{arith}
 use borrow.Author.Needs.{needs}
 use Rattle.effects.proofs.memory.place.Statement.{statement}
 use Rattle.effects.proofs.memory.place.Tie as tie
@@ -12,5 +13,5 @@ place-spec =
     (λ c κs. search needs)
     (λ c. search needs)
     (λ c κs. search needs)
-    (λ c. simp (c .before .before .c .given .1, c .register .ensures))
-    (λ c. simp (c .before .before .c2 .given .1, c .indirect .ensures)))
+    (λ c. (rw (c .before .before .c .given .1) (c .register .ensures), omega arith))
+    (λ c. (rw (c .before .before .c2 .given .1) (c .indirect .ensures .0), c .indirect .ensures .1)))

@@ -16,5 +16,5 @@ source-spec =
     (λ c κs. search needs)
     (λ c. search needs)
     (λ c. simp (c .before .before .before .from .given .1, c .before .register .ensures, c .cell .ensures))
-    (λ c. simp (c .before .before .before .from2 .given .1, c .before .indirect .ensures, c .cell2 .ensures))
+    (λ c. simp (c .before .before .before .from2 .given .1, c .before .indirect .ensures .0, c .cell2 .ensures))
     (λ c. search needs))

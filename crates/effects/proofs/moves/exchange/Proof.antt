@@ -4,9 +4,18 @@ use borrow.Author.Needs.{needs}
 use Rattle.effects.proofs.moves.exchange.Statement.{statement}
 use Rattle.effects.proofs.moves.exchange.Tie as tie
 
+stored : tie.Need-returns
+stored c =
+    let cell = c .before .before .before .before .before .cell .ensures in
+    let e = c .before .before .stored-effect .ensures in
+    (rw (e .0, c .before .before .before .before .with-a .ensures, cell), e .1)
+
 pub exchange-spec : {M : Type 1} → statement M
-exchange-spec = tie.close (tie.spec
+exchange-spec =
+    tie.close
+    (tie.spec
     (λ c κs. search needs)
     (λ c κs. search needs)
     (λ c κs. search needs)
-    (λ c. simp (c .before .before .cell .ensures, c .before .with-a .ensures, c .stored-effect .ensures)))
+    (λ c. search needs)
+    stored)

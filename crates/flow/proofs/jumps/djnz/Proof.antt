@@ -4,6 +4,12 @@ use borrow.Author.Needs.{needs}
 use Rattle.flow.proofs.jumps.djnz.Statement.{statement}
 use Rattle.flow.proofs.jumps.djnz.Tie as tie
 
+stored : tie.Need-returns
+stored c =
+    let cell = c .before .before .before .before .before .cell .ensures in
+    let e = c .before .before .stored-effect .ensures in
+    (rw (e .0, c .before .before .before .before .jump-if .ensures, cell), rw (e .1, cell))
+
 pub djnz-spec : {M : Type 1} → statement M
 djnz-spec =
     tie.close
@@ -14,4 +20,5 @@ djnz-spec =
     (λ c. search needs)
     (λ c κs. search needs)
     (λ c κs. search needs)
-    (λ c. simp (c .before .before .cell .ensures, c .before .jump-if .ensures, c .stored-effect .ensures)))
+    (λ c. search needs)
+    stored)
