@@ -166,7 +166,7 @@ fn run_on(table: &[u16; 256], program: &[u8], ram: &mut [u8], start: State, samp
     let mut i: usize = 0;
     while i + 1 < samples.len() {
         let r = do_step(table, program, ram, state, samples[i], samples[i + 1]);
-        // A refused step gives back the state it got. Taken from the answer, the state before need not be kept beside the new one.
+        // A refused step gives back the state it got.
         state = r.state;
         if r.number != 0 {
             return Ran {

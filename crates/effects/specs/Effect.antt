@@ -14,7 +14,7 @@ pub data Write : Type 0 where
   Byte : ℕ → ℕ → Write
   Pair : ℕ → ℕ → ℕ → Write
 
--- RAM after it.
+-- RAM after a write.
 unfoldable pub written : List ℕ → Write → List ℕ
 written ram Nothing = ram
 written ram (Byte at v) = set ram at v

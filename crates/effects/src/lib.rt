@@ -1,4 +1,4 @@
-// What an instruction answers, and what is done to registers, RAM, A and ports.
+// What an instruction answers, and what is done to registers, RAM and ports.
 use isa::DigitMove;
 use isa::Refusal;
 use machine::State;
