@@ -123,6 +123,11 @@ void set_pc(struct chip *chip, uint16_t pc)
     chip->state[BYTE_PC_HIGH] = (uint8_t)(pc >> 8);
 }
 
+uint8_t *register_of(struct chip *chip, unsigned r)
+{
+    return &chip->ram[(chip->state[BYTE_PSW] & 0x10 ? 24 : 0) + r];
+}
+
 void put_code(struct chip *chip, uint8_t code)
 {
     if (pc_of(chip) < chip->program_len)
@@ -196,6 +201,7 @@ void show_before(const struct chip *chip)
     show_program(chip, "at PC", pc, 1);
     show_program(chip, "at the next PC", next_pc(chip), 1);
     show_program(chip, "table byte in PC's page", (pc & 0xF00u) | a, 1);
+    show_program(chip, "table byte in the next PC's page", (next_pc(chip) & 0xF00u) | a, 1);
     show_program(chip, "table byte in page 3", (pc & 0x800u) | 0x300u | a, 1);
     print_state("state before", chip->state, chip->state_len);
     print_bytes("RAM before", chip->ram, chip->ram_len);

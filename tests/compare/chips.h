@@ -37,6 +37,9 @@ uint32_t random_sample(void);
 uint16_t pc_of(const struct chip *chip);
 void set_pc(struct chip *chip, uint16_t pc);
 
+/* Rr in the bank that PSW names. */
+uint8_t *register_of(struct chip *chip, unsigned r);
+
 /* Puts a code where PC points, if that is in the program. */
 void put_code(struct chip *chip, uint8_t code);
 void put_operand(struct chip *chip, uint8_t operand);

@@ -1,6 +1,6 @@
 /*
- * What the drivers share: random numbers, the count of cases, buffers that are lent with
- * guards around them, printing.
+ * What the drivers share: the codes that jump on a condition, random numbers, the count of
+ * cases, buffers that are lent with guards around them, printing.
  */
 #define _DEFAULT_SOURCE /* MAP_ANONYMOUS */
 #include "shared.h"
@@ -11,6 +11,17 @@
 #include <stdlib.h>
 #include <string.h>
 #include <sys/mman.h>
+
+/* The data sheets' codes, so that neither emulator decides which are tried. */
+bool is_conditional_jump(uint8_t code)
+{
+    static const uint8_t others[] = {0x16, 0x26, 0x36, 0x46, 0x56, 0x76,
+                                     0x86, 0x96, 0xB6, 0xC6, 0xE6, 0xF6};
+    bool jb = (code & 0x1F) == 0x12;
+    bool djnz = (code & 0xF8) == 0xE8;
+
+    return jb || djnz || memchr(others, code, sizeof others) != NULL;
+}
 
 /* Random numbers: splitmix64. */
 

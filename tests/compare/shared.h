@@ -1,6 +1,6 @@
 /*
- * What the drivers share: random numbers, the count of cases, buffers that are lent with
- * guards around them, printing.
+ * What the drivers share: the codes that jump on a condition, random numbers, the count of
+ * cases, buffers that are lent with guards around them, printing.
  */
 #ifndef SHARED_H
 #define SHARED_H
@@ -10,6 +10,9 @@
 #include <stdbool.h>
 
 #define LENGTH(array) (sizeof(array) / sizeof(array)[0])
+
+/* One of 28: JBb, DJNZ and twelve more. */
+bool is_conditional_jump(uint8_t code);
 
 /* Random numbers. Each case has its own, from the seed and its place among the cases. */
 

@@ -30,6 +30,96 @@ static void pc_cases(void)
         pc_case(edges[i]);
 }
 
+/* Codes that jump within a page or read a table in one, where two pages meet (02, item 3). */
+
+enum { PAGE_STEPS = 16 * 3 * 9 }; /* pages, places in a page, pairings of sizes */
+
+/* JZ, JNZ and DJNZ would hardly ever go one of their two ways. */
+static void even_odds(uint8_t code)
+{
+    if (one_in(2))
+        return;
+    if (code == 0x96 || code == 0xC6)
+        step.chip.state[BYTE_A] = 0;
+    if ((code & 0xF8) == 0xE8)
+        *register_of(&step.chip, code & 7) = 1;
+}
+
+/* PAGE_STEPS tries take each page, place and pairing once. */
+static void page_step(uint64_t tries, uint8_t code)
+{
+    static const uint8_t places[] = {0xFE, 0xFF, 0x00};
+
+    random_step(tries);
+    set_pc(&step.chip, (uint16_t)(tries % 16 << 8 | places[tries / 16 % 3]));
+    step.chip.program_len = program_sizes[tries / 48 % 3];
+    step.chip.ram_len = ram_sizes[tries / 144 % 3];
+    put_code(&step.chip, code);
+    put_operand(&step.chip, (uint8_t)random_word());
+    even_odds(code);
+}
+
+/* What the steps at the last byte of a page have met. */
+struct page_ends {
+    uint64_t reached;
+    uint64_t taken;
+    uint64_t past_end; /* number 5 at 3FF of 1,024 */
+};
+
+static void note_page_end(struct page_ends *met, struct second_outcome outcome)
+{
+    uint16_t pc = pc_of(&step.chip);
+
+    if ((pc & 0xFF) != 0xFF)
+        return;
+    met->reached += reached(outcome);
+    met->taken += reached(outcome) && jump_taken();
+    met->past_end +=
+        outcome.number == SECOND_PAST_END && pc == 0x3FF && step.chip.program_len == 1024;
+}
+
+/*
+ * At 3FF of 1,024 a conditional jump's second byte is past the end, and so is MOVP's table byte;
+ * JMPP and MOVP3 read page 3.
+ */
+static void check_page_ends(const struct page_ends *met, uint8_t code)
+{
+    bool jump = is_conditional_jump(code);
+    bool has_past_end = jump || code == 0xA3;
+    uint64_t few = met->reached / 8;
+
+    if (jump && (met->taken <= few || met->reached - met->taken <= few))
+        differ("seldom taken, or seldom not");
+    if (has_past_end != (met->past_end > 0))
+        differ("5 at 3FF of 1,024 is %s given", has_past_end ? "never" : "once");
+}
+
+static void page_case(uint8_t code)
+{
+    struct page_ends met = {0};
+
+    begin_case("code %02X at the edges of pages", code);
+    for (uint64_t i = 0; (i < 4 * PAGE_STEPS || met.reached < count()) && agrees(); i++) {
+        page_step(i, code);
+        note_page_end(&met, check_step());
+        if (i > 100 * (met.reached + 10))
+            differ("too few steps come as far as the code");
+    }
+    check_page_ends(&met, code);
+    end_case();
+}
+
+static void page_cases(void)
+{
+    for (unsigned code = 0; code < 256; code++) {
+        if (is_conditional_jump((uint8_t)code))
+            page_case((uint8_t)code);
+    }
+    page_case(0xA3); /* MOVP */
+    page_case(0xB3); /* JMPP */
+    page_case(0xE3); /* MOVP3 */
+}
+
 /* A step whose code every program has at PC, and that nothing forestalls but a timer request. */
 static void plain_step(uint64_t tries)
 {
@@ -157,6 +247,7 @@ static void accumulator_cases(void)
 void edge_cases(void)
 {
     pc_cases();
+    page_cases();
     timer_case(31);
     timer_case(30);
     timer_case(29);

@@ -2,7 +2,8 @@
  * Steps: mcs48_step against second_step, call by call. Compared are the packed answer, the
  * 24 bytes of the state, all of RAM, and that a refused call has touched nothing.
  *
- * --count N: how often each code is carried out. A tenth of it is tried of each refusal.
+ * --count N: how often each code is carried out, and each that depends on a page as often again
+ * at the end of one. A tenth of it is tried of each refusal.
  */
 #include "steps.h"
 
@@ -44,6 +45,8 @@ enum met {
     OVERFLOW_IN_FIRST,
     OVERFLOW_IN_SECOND,
     FALL_OF_T1,
+    JUMP_OUT,
+    TABLE_PAST_END,
     NUMBER_1,
     NUMBER_6 = NUMBER_1 + 5,
     MOVX_READ,
@@ -59,6 +62,8 @@ static const char *const meeting_names[MEETINGS] = {
     "overflow in the first of two cycles",
     "in the second",
     "fall of T1 between them",
+    "jump out of the page of its first byte",
+    "table byte past the end",
     "number 1",
     "2",
     "3",
@@ -119,14 +124,85 @@ static void note_overflow(void)
         counter && (step.first & SECOND_PIN_T1) && !(step.second & SECOND_PIN_T1);
 }
 
+static uint8_t code_of_step(void)
+{
+    return step.chip.program[pc_of(&step.chip)];
+}
+
+static bool is_high(uint32_t pin)
+{
+    return (step.first & pin) != 0;
+}
+
+bool jump_taken(void)
+{
+    const uint8_t *state = step.chip.state;
+    uint8_t code = code_of_step();
+
+    if ((code & 0x1F) == 0x12) /* JBb */
+        return state[BYTE_A] >> (code >> 5) & 1;
+    if ((code & 0xF8) == 0xE8) /* DJNZ */
+        return *register_of(&step.chip, code & 7) != 1;
+    switch (code) {
+    case 0x16: /* JTF */
+        return state[BYTE_TF];
+    case 0x26: /* JNT0 */
+        return !is_high(SECOND_PIN_T0);
+    case 0x36: /* JT0 */
+        return is_high(SECOND_PIN_T0);
+    case 0x46: /* JNT1 */
+        return !is_high(SECOND_PIN_T1);
+    case 0x56: /* JT1 */
+        return is_high(SECOND_PIN_T1);
+    case 0x76: /* JF1 */
+        return state[BYTE_F1];
+    case 0x86: /* JNI */
+        return !is_high(SECOND_PIN_INT);
+    case 0x96: /* JNZ */
+        return state[BYTE_A] != 0;
+    case 0xB6: /* JF0 */
+        return state[BYTE_PSW] & 0x20;
+    case 0xC6: /* JZ */
+        return state[BYTE_A] == 0;
+    case 0xE6: /* JNC */
+        return !(state[BYTE_PSW] & 0x80);
+    case 0xF6: /* JC */
+        return state[BYTE_PSW] & 0x80;
+    default:
+        return false;
+    }
+}
+
+static void note_jump(void)
+{
+    bool other_page = lent.second_state.pc >> 8 != pc_of(&step.chip) >> 8;
+
+    meetings[JUMP_OUT] += jump_taken() && other_page;
+}
+
+/* MOVP has no second byte: where it stands in the program, 5 is for its table byte. */
+static void note_past_end(void)
+{
+    meetings[TABLE_PAST_END] += pc_of(&step.chip) < step.chip.program_len && code_of_step() == 0xA3;
+}
+
+static void note_refusal(uint8_t number)
+{
+    if (number <= SECOND_SAMPLE_BITS)
+        meetings[NUMBER_1 + number - 1]++;
+    if (number == SECOND_PAST_END)
+        note_past_end();
+}
+
 static void note(struct second_outcome outcome)
 {
     if (outcome.number != 0) {
-        if (outcome.number <= SECOND_SAMPLE_BITS)
-            meetings[NUMBER_1 + outcome.number - 1]++;
+        note_refusal(outcome.number);
         return;
     }
     note_act(act_of_step());
+    if (act_of_step() == INSTRUCTION)
+        note_jump();
     if (outcome.cycles == 2)
         note_overflow();
     if (outcome.event != 0 && outcome.event <= SECOND_ANLD)
@@ -205,8 +281,7 @@ struct second_outcome check_step(void)
 
 /* Codes. */
 
-/* Has the step come as far as its code? */
-static bool reached(struct second_outcome outcome)
+bool reached(struct second_outcome outcome)
 {
     return act_of_step() == INSTRUCTION &&
            (outcome.number == SECOND_ACCEPTED || outcome.number == SECOND_UNDEFINED_CODE);

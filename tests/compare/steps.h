@@ -24,6 +24,12 @@ void quiet_pins(void);
 /* Gives the step to both emulators and compares all that they answer and leave. */
 struct second_outcome check_step(void);
 
+/* Has the step come as far as its code? */
+bool reached(struct second_outcome outcome);
+
+/* By document 01, does the code at PC jump on a condition that holds? */
+bool jump_taken(void);
+
 void edge_cases(void);
 void refusal_cases(void);
 

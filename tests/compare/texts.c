@@ -244,6 +244,47 @@ static void pair_cases(void)
     pair_case(0xFFF, 0x1000);
 }
 
+/* A conditional jump where each page ends. The NOP before it makes it a line of the listing. */
+
+static void put_at_page_ends(uint8_t code)
+{
+    random_bytes(program, sizeof program);
+    for (size_t end = 0x0FF; end < PROGRAM_MOST; end += 0x100) {
+        program[end - 1] = 0x00;
+        program[end] = code;
+    }
+}
+
+/* Programs that end with the jump's first byte and with its second. */
+static void check_page_end(size_t end)
+{
+    for (program_len = end + 1; program_len <= end + 2; program_len++) {
+        lend_program();
+        address = end;
+        check_address();
+        check_listing();
+    }
+}
+
+static void page_end_case(uint8_t code)
+{
+    begin_case("code %02X at the end of each page", code);
+    put_at_page_ends(code);
+    program_len = PROGRAM_MOST;
+    check_program();
+    for (size_t end = 0x0FF; end < PROGRAM_MOST && agrees(); end += 0x100)
+        check_page_end(end);
+    end_case();
+}
+
+static void page_end_cases(void)
+{
+    for (unsigned code = 0; code < 256; code++) {
+        if (is_conditional_jump((uint8_t)code))
+            page_end_case((uint8_t)code);
+    }
+}
+
 /* Power-up. */
 
 static void power_up_case(size_t len)
@@ -280,6 +321,7 @@ int main(int argc, char **argv)
     start(&driver, argc, argv);
     lent_program = new_room(PROGRAM_ROOM);
     lent_line = new_room(LINE_ROOM);
+    page_end_cases();
     length_cases();
     random_case();
     pair_cases();

@@ -1,9 +1,11 @@
 /*
  * Tests of the second emulator: the sixteen bench cases of document 01, then the
- * sentences of document 01 and of our readings that are easily misread.
+ * sentences of document 01, of item 3 of document 02 and of our readings that are easily
+ * misread.
  *
- * Written from document 01 (the scope) and our readings of it alone, without a look at
- * the Rattle sources; codes and spellings after data sheets 001 and 002.
+ * Written from document 01 (the scope), item 3 of document 02 and our readings of both
+ * alone, without a look at the Rattle sources; codes and spellings after data sheets 001
+ * and 002.
  *
  * A failed test prints what was expected and got. The last line is `N passed, M failed`,
  * and the exit status is 0 exactly if M is 0.
@@ -1034,8 +1036,11 @@ static void jumps(void)
         uint16_t taken;
         uint16_t next;
     } places[] = {
-        {0x010, 0x0A7, 0x012}, {0x0FE, 0x0A7, 0x100}, {0x0FF, 0x0A7, 0x101}, {0x7FE, 0x7A7, 0x000},
-        {0x7FF, 0x7A7, 0x001}, {0xBFF, 0xBA7, 0xC01}, {0xFFE, 0xFA7, 0x800}, {0xFFF, 0xFA7, 0x801},
+        {0x010, 0x0A7, 0x012}, {0x0FE, 0x0A7, 0x100}, {0x0FF, 0x1A7, 0x101}, {0x100, 0x1A7, 0x102},
+        {0x1FE, 0x1A7, 0x200}, {0x1FF, 0x2A7, 0x201}, {0x200, 0x2A7, 0x202}, {0x3FE, 0x3A7, 0x400},
+        {0x3FF, 0x4A7, 0x401}, {0x400, 0x4A7, 0x402}, {0x7FE, 0x7A7, 0x000}, {0x7FF, 0x0A7, 0x001},
+        {0x800, 0x8A7, 0x802}, {0x8FE, 0x8A7, 0x900}, {0x8FF, 0x9A7, 0x901}, {0xBFF, 0xCA7, 0xC01},
+        {0xFFE, 0xFA7, 0x800}, {0xFFF, 0x8A7, 0x801},
     };
     struct bench b;
 
@@ -1055,7 +1060,7 @@ static void jumps(void)
             b.first = rows[i].first;
             b.second = rows[i].second;
             expect(&b, rows[i].taken ? places[k].taken : places[k].next, 2);
-            step(&b, "conditional jump: the page of its first byte");
+            step(&b, "conditional jump: the page of its second byte");
         }
     }
     for (size_t k = 0; k < sizeof places / sizeof *places; k++) {
@@ -1074,6 +1079,16 @@ static void jumps(void)
                     step(&b, "DJNZ subtracts and jumps if not 0");
                 }
             }
+        }
+        for (uint8_t tf = 0; tf < 2; tf++) {
+            fresh(&b);
+            b.program[at] = 0x16;
+            b.program[(at & 0x800) | ((at + 1) & 0x7FF)] = 0xA7;
+            b.s.pc = at;
+            b.s.tf = tf;
+            expect(&b, tf ? places[k].taken : places[k].next, 2);
+            b.want.tf = 0;
+            step(&b, "JTF: the page of its second byte");
         }
     }
 
@@ -1115,29 +1130,130 @@ static void jumps(void)
     expect(&b, 0x9FF, 1);
     b.want.dbf = 0;
     step(&b, "SEL MB0 leaves PC");
+}
 
-    /* JMPP, MOVP and MOVP3: the table byte's place. */
-    for (unsigned page = 0; page < 16; page++) {
-        uint16_t at = (uint16_t)(page << 8 | 0xFF);
-        uint16_t next = (uint16_t)((at & 0x800) | ((at + 1) & 0x7FF));
-        uint16_t page_3 = (at & 0x800) | 0x300;
-        static const uint8_t one_byte[] = {0xB3, 0xA3, 0xE3};
-        for (unsigned k = 0; k < 3; k++) {
-            fresh(&b);
-            for (unsigned i = 0; i < 4096; i++)
-                b.program[i] = (uint8_t)(i >> 8 | 0x50);
-            b.program[at] = one_byte[k];
-            b.s.pc = at;
-            b.s.a = 0x42;
-            expect(&b, next, 2);
-            if (k == 0)
-                b.want.pc = (uint16_t)(page << 8 | 0x50 | page);
-            else if (k == 1)
-                b.want.a = (uint8_t)(0x50 | page);
-            else
-                b.want.a = (uint8_t)(0x50 | page_3 >> 8);
-            step(&b, "JMPP, MOVP, MOVP3 at the end of a page");
-        }
+/* A fresh bench with a code at PC in a program whose pages are full of 50, 51 .. 5F. */
+static void fresh_pages(struct bench *b, uint16_t pc, uint8_t code, uint8_t a)
+{
+    fresh(b);
+    for (unsigned i = 0; i < 4096; i++)
+        b->program[i] = (uint8_t)(i >> 8 | 0x50);
+    b->program[pc] = code;
+    b->s.pc = pc;
+    b->s.a = a;
+}
+
+static void tables(void)
+{
+    static const struct {
+        uint16_t at;
+        uint16_t next;
+        uint8_t movp;  /* the byte that MOVP reads */
+        uint8_t movp3; /* and MOVP3 */
+        uint16_t jmpp; /* where JMPP goes */
+    } rows[] = {
+        {0x0FE, 0x0FF, 0x50, 0x53, 0x050}, {0x0FF, 0x100, 0x51, 0x53, 0x050},
+        {0x100, 0x101, 0x51, 0x53, 0x151}, {0x1FE, 0x1FF, 0x51, 0x53, 0x151},
+        {0x1FF, 0x200, 0x52, 0x53, 0x151}, {0x200, 0x201, 0x52, 0x53, 0x252},
+        {0x2FF, 0x300, 0x53, 0x53, 0x252}, {0x3FE, 0x3FF, 0x53, 0x53, 0x353},
+        {0x3FF, 0x400, 0x54, 0x53, 0x353}, {0x400, 0x401, 0x54, 0x53, 0x454},
+        {0x7FE, 0x7FF, 0x57, 0x53, 0x757}, {0x7FF, 0x000, 0x50, 0x53, 0x757},
+        {0x800, 0x801, 0x58, 0x5B, 0x858}, {0x8FF, 0x900, 0x59, 0x5B, 0x858},
+        {0xBFF, 0xC00, 0x5C, 0x5B, 0xB5B}, {0xFFE, 0xFFF, 0x5F, 0x5B, 0xF5F},
+        {0xFFF, 0x800, 0x58, 0x5B, 0xF5F},
+    };
+    struct bench b;
+
+    for (size_t i = 0; i < sizeof rows / sizeof *rows; i++) {
+        fresh_pages(&b, rows[i].at, 0xA3, 0x42);
+        expect(&b, rows[i].next, 2);
+        b.want.a = rows[i].movp;
+        step(&b, "MOVP: the page of the instruction that follows it");
+
+        fresh_pages(&b, rows[i].at, 0xE3, 0x42);
+        expect(&b, rows[i].next, 2);
+        b.want.a = rows[i].movp3;
+        step(&b, "MOVP3: page 3 of its bank");
+
+        fresh_pages(&b, rows[i].at, 0xB3, 0x42);
+        expect(&b, rows[i].jmpp, 2);
+        step(&b, "JMPP: table byte and target in the page of its first byte");
+    }
+
+    fresh_pages(&b, 0x1FF, 0xB3, 0xFF);
+    expect(&b, 0x1B3, 2);
+    step(&b, "JMPP at 1FF with A FF reads its own code");
+    fresh_pages(&b, 0x1FF, 0xA3, 0xFF);
+    expect(&b, 0x200, 2);
+    b.want.a = 0x52;
+    step(&b, "MOVP at 1FF with A FF reads 2FF");
+    fresh_pages(&b, 0x1FE, 0xA3, 0xFE);
+    expect(&b, 0x1FF, 2);
+    b.want.a = 0xA3;
+    step(&b, "MOVP at 1FE with A FE reads its own code");
+}
+
+/* Pages' edges in programs that end there. */
+static void short_programs(void)
+{
+    static const uint8_t every_a[] = {0x00, 0x42, 0xFF};
+    struct bench b;
+
+    for (size_t i = 0; i < sizeof every_a; i++) {
+        fresh_pages(&b, 0x3FF, 0xA3, every_a[i]);
+        b.program_len = 1024;
+        b.s.psw = 0xFD;
+        b.s.counting = SECOND_TIMER;
+        b.s.divider = 31;
+        memset(b.ram, 0xC3, sizeof b.ram);
+        b.first = T1_LOW;
+        step_refused(&b, "MOVP at 3FF of 1,024", 5);
+
+        b.program_len = 2048;
+        b.s.counting = SECOND_STOPPED;
+        b.first = IDLE;
+        expect(&b, 0x400, 2);
+        b.want.a = 0x54;
+        step(&b, "MOVP at 3FF of 2,048 reads page 4");
+    }
+
+    fresh_pages(&b, 0x3FE, 0xA3, 0x42);
+    b.program_len = 1024;
+    expect(&b, 0x3FF, 2);
+    b.want.a = 0x53;
+    step(&b, "MOVP at 3FE of 1,024 reads page 3");
+    fresh_pages(&b, 0x3FF, 0xE3, 0x42);
+    b.program_len = 1024;
+    expect(&b, 0x400, 2);
+    b.want.a = 0x53;
+    step(&b, "MOVP3 at 3FF of 1,024 reads page 3");
+    fresh_pages(&b, 0x3FF, 0xB3, 0x42);
+    b.program_len = 1024;
+    expect(&b, 0x353, 2);
+    step(&b, "JMPP at 3FF of 1,024 stays in page 3");
+    fresh_pages(&b, 0x7FF, 0xA3, 0x42);
+    b.program_len = 2048;
+    expect(&b, 0x000, 2);
+    b.want.a = 0x50;
+    step(&b, "MOVP at 7FF of 2,048 reads page 0");
+
+    for (unsigned taken = 0; taken < 2; taken++) {
+        uint8_t a = taken ? 0x00 : 0x42;
+
+        fresh_pages(&b, 0x3FF, 0xC6, a);
+        b.program_len = 1024;
+        step_refused(&b, "JZ at 3FF of 1,024 lacks its second byte", 5);
+        b.program_len = 2048;
+        expect(&b, taken ? 0x454 : 0x401, 2);
+        step(&b, "JZ at 3FF of 2,048");
+        fresh_pages(&b, 0x3FE, 0xC6, a);
+        b.program_len = 1024;
+        expect(&b, taken ? 0x353 : 0x400, 2);
+        step(&b, "JZ at 3FE of 1,024");
+        fresh_pages(&b, 0x7FF, 0xC6, a);
+        b.program_len = 2048;
+        expect(&b, taken ? 0x050 : 0x001, 2);
+        step(&b, "JZ at 7FF of 2,048");
     }
 }
 
@@ -1961,9 +2077,6 @@ static void lines(void)
     program[0x010] = 0xC6;
     program[0x011] = 0xFF;
     check_line("010  C6 FF  JZ 0FFH\n", program, 4096, 0x010, 2);
-    program[0x9FF] = 0xC6;
-    program[0xA00] = 0x01;
-    check_line("9FF  C6 01  JZ 901H\n", program, 4096, 0x9FF, 2);
     program[0xFFD] = 0xE8;
     program[0xFFE] = 0xFF;
     check_line("FFD  E8 FF  DJNZ R0,0FFFH\n", program, 4096, 0xFFD, 2);
@@ -1981,6 +2094,31 @@ static void lines(void)
     program[0xFFF] = 0xF7;
     check_line("7FF  17     INC A\n", program, 4096, 0x7FF, 1);
     check_line("FFF  F7     RLC A\n", program, 4096, 0xFFF, 1);
+
+    /* A conditional jump shows the page of its second byte, wherever the program ends. */
+    program[0x0FF] = 0xC6;
+    program[0x100] = 0x01;
+    check_line("0FF  C6 01  JZ 101H\n", program, 4096, 0x0FF, 2);
+    check_line("0FF  C6 01  JZ 101H\n", program, 0x101, 0x0FF, 2);
+    check_line("0FF  C6     DB 0C6H\n", program, 0x100, 0x0FF, 1);
+    program[0x0FE] = 0xC6;
+    check_line("0FE  C6 C6  JZ 0C6H\n", program, 4096, 0x0FE, 2);
+    program[0x1FF] = 0xEB;
+    program[0x200] = 0xFE;
+    check_line("1FF  EB FE  DJNZ R3,2FEH\n", program, 4096, 0x1FF, 2);
+    program[0x1FF] = 0x72;
+    check_line("1FF  72 FE  JB3 2FEH\n", program, 4096, 0x1FF, 2);
+    program[0x9FF] = 0xC6;
+    program[0xA00] = 0x01;
+    check_line("9FF  C6 01  JZ 0A01H\n", program, 4096, 0x9FF, 2);
+    program[0x7FE] = 0xC6;
+    program[0x7FF] = 0x96;
+    program[0xFFE] = 0xC6;
+    program[0xFFF] = 0x96;
+    check_line("7FE  C6 96  JZ 796H\n", program, 4096, 0x7FE, 2);
+    check_line("7FF  96     DB 96H\n", program, 4096, 0x7FF, 1);
+    check_line("FFE  C6 96  JZ 0F96H\n", program, 4096, 0xFFE, 2);
+    check_line("FFF  96     DB 96H\n", program, 4096, 0xFFF, 1);
 
     check_line_refused(1, program, 4097, 5000, 31);
     check_line_refused(7, program, 4096, 5000, 31);
@@ -2029,6 +2167,17 @@ static void listings(void)
     }
     check_text("listing of 4,096", expected, text,
                second_listing(program, 4096, text, sizeof text));
+
+    memset(program, 0x00, sizeof program);
+    program[0x1FF] = 0xF6;
+    program[0x200] = 0x10;
+    len = 0;
+    for (unsigned address = 0x000; address < 0x1FF; address++)
+        len +=
+            (size_t)snprintf(expected + len, sizeof expected - len, "%03X  00     NOP\n", address);
+    snprintf(expected + len, sizeof expected - len, "1FF  F6 10  JC 210H\n");
+    check_text("listing of 513 with a jump over a page's end", expected, text,
+               second_listing(program, 513, text, sizeof text));
 }
 
 /* Random machines: a run is its steps, one by one, and no step leaves the sizes. */
@@ -2141,6 +2290,8 @@ int main(void)
     interrupts();
     counting();
     jumps();
+    tables();
+    short_programs();
     stack();
     accumulator();
     memory();

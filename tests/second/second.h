@@ -2,8 +2,9 @@
  * Second emulator of the Intel MCS-48 (8048, 8049, 8050): the second opinion that the
  * proved one is compared with.
  *
- * Written from document 01 (the scope) and our readings of it alone, without a look at
- * the Rattle sources; codes and spellings after data sheets 001 and 002.
+ * Written from document 01 (the scope), item 3 of document 02 and our readings of both
+ * alone, without a look at the Rattle sources; codes and spellings after data sheets 001
+ * and 002.
  *
  * No routine keeps anything between calls: what it works on is lent to it and nothing is
  * allocated. A pointer may be null only where the length that goes with it is 0.

@@ -1,8 +1,8 @@
 /*
  * Second emulator of the MCS-48: what its files share and its callers don't see.
  *
- * Written from document 01 (the scope) and our readings of it alone, without a look at
- * the Rattle sources.
+ * Written from document 01 (the scope), item 3 of document 02 and our readings of both
+ * alone, without a look at the Rattle sources.
  */
 #ifndef SECOND_CODES_H
 #define SECOND_CODES_H
@@ -26,5 +26,8 @@ extern const struct second_code second_codes[256];
 
 /* The address after pc: the low 11 bits count and wrap, bit 11 stays. (second_step.c) */
 uint16_t second_next_pc(uint16_t pc);
+
+/* Where the conditional jump at an address goes if it is taken. (second_step.c) */
+uint16_t second_conditional_target(uint16_t at, uint8_t operand);
 
 #endif

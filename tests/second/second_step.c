@@ -1,8 +1,8 @@
 /*
  * Second emulator of the MCS-48: power-up, the step and the run.
  *
- * Written from document 01 (the scope) and our readings of it alone, without a look at
- * the Rattle sources.
+ * Written from document 01 (the scope), item 3 of document 02 and our readings of both
+ * alone, without a look at the Rattle sources.
  */
 #include "second.h"
 #include "second_codes.h"
@@ -89,6 +89,30 @@ uint16_t second_next_pc(uint16_t pc)
 static uint16_t in_page(uint16_t pc, uint8_t low)
 {
     return (uint16_t)((pc & PC_PAGE) | low);
+}
+
+/* "A conditional jump stays in the page of its second byte" (02, item 3). */
+uint16_t second_conditional_target(uint16_t at, uint8_t operand)
+{
+    return in_page(second_next_pc(at), operand);
+}
+
+/* "MOVP uses the page of the instruction that follows it" (02, item 3). */
+static uint16_t movp_place(uint16_t at, uint8_t a)
+{
+    return in_page(second_next_pc(at), a);
+}
+
+/* JMPP "stays as 01 has it" (02, item 3): table byte and target in the page of its first byte. */
+static uint16_t jmpp_place(uint16_t at, uint8_t low)
+{
+    return in_page(at, low);
+}
+
+/* "MOVP3 replaces bits 8-10 by 3 and leaves bit 11" (01). */
+static uint16_t movp3_place(uint16_t at, uint8_t a)
+{
+    return (uint16_t)((at & PC_BANK) | 0x300 | a);
 }
 
 /* Where JMP and CALL go: 8 bits from the second byte, 3 from the first, the bank from DBF. */
@@ -419,68 +443,68 @@ static enum second_number instruct(const uint8_t *program, size_t program_len, u
         next = long_target(s, code, operand);
         break;
     case SECOND_JMPP_AT_A: {
-        uint16_t table = in_page(at, s->a);
+        uint16_t table = jmpp_place(at, s->a);
         if (table >= program_len)
             return SECOND_PAST_END;
-        next = in_page(at, program[table]);
+        next = jmpp_place(at, program[table]);
         break;
     }
     case SECOND_DJNZ_R:
         if (--*reg(s, ram, code) != 0)
-            next = in_page(at, operand);
+            next = second_conditional_target(at, operand);
         break;
     case SECOND_JB:
         if (s->a >> (code >> 5) & 1)
-            next = in_page(at, operand);
+            next = second_conditional_target(at, operand);
         break;
     case SECOND_JC:
         if (carry(s))
-            next = in_page(at, operand);
+            next = second_conditional_target(at, operand);
         break;
     case SECOND_JNC:
         if (!carry(s))
-            next = in_page(at, operand);
+            next = second_conditional_target(at, operand);
         break;
     case SECOND_JZ:
         if (s->a == 0)
-            next = in_page(at, operand);
+            next = second_conditional_target(at, operand);
         break;
     case SECOND_JNZ:
         if (s->a != 0)
-            next = in_page(at, operand);
+            next = second_conditional_target(at, operand);
         break;
     case SECOND_JT0:
         if (pin_high(first, SECOND_PIN_T0))
-            next = in_page(at, operand);
+            next = second_conditional_target(at, operand);
         break;
     case SECOND_JNT0:
         if (!pin_high(first, SECOND_PIN_T0))
-            next = in_page(at, operand);
+            next = second_conditional_target(at, operand);
         break;
     case SECOND_JT1:
         if (pin_high(first, SECOND_PIN_T1))
-            next = in_page(at, operand);
+            next = second_conditional_target(at, operand);
         break;
     case SECOND_JNT1:
         if (!pin_high(first, SECOND_PIN_T1))
-            next = in_page(at, operand);
+            next = second_conditional_target(at, operand);
         break;
     case SECOND_JF0:
         if (s->psw & PSW_F0)
-            next = in_page(at, operand);
+            next = second_conditional_target(at, operand);
         break;
     case SECOND_JF1:
         if (s->f1)
-            next = in_page(at, operand);
+            next = second_conditional_target(at, operand);
         break;
     case SECOND_JTF:
         if (s->tf)
-            next = in_page(at, operand);
+            next = second_conditional_target(at, operand);
         s->tf = 0;
         break;
     case SECOND_JNI:
         if (!pin_high(first, SECOND_PIN_INT))
-            next = in_page(at, operand);
+            next = second_conditional_target(at, operand);
         break;
 
     case SECOND_CALL:
@@ -561,14 +585,14 @@ static enum second_number instruct(const uint8_t *program, size_t program_len, u
         tell(outcome, SECOND_MOVX_WRITE, *bank_register(s, ram, code & 1), s->a);
         break;
     case SECOND_MOVP_A_AT_A: {
-        uint16_t table = in_page(at, s->a);
+        uint16_t table = movp_place(at, s->a);
         if (table >= program_len)
             return SECOND_PAST_END;
         s->a = program[table];
         break;
     }
     case SECOND_MOVP3_A_AT_A: {
-        uint16_t table = (uint16_t)((at & PC_BANK) | 0x300 | s->a);
+        uint16_t table = movp3_place(at, s->a);
         if (table >= program_len)
             return SECOND_PAST_END;
         s->a = program[table];

@@ -2,8 +2,9 @@
  * Second emulator of the MCS-48: the instruction reader, the instruction writer and the
  * listing.
  *
- * Written from document 01 (the scope) and our readings of it alone, without a look at
- * the Rattle sources; codes and spellings after data sheets 001 and 002.
+ * Written from document 01 (the scope), item 3 of document 02 and our readings of both
+ * alone, without a look at the Rattle sources; codes and spellings after data sheets 001
+ * and 002.
  */
 #include "second.h"
 #include "second_codes.h"
@@ -25,7 +26,7 @@ enum operand {
 enum tail {
     NO_TAIL,
     DATA,
-    PAGE_ADDRESS, /* low 8 bits, in the page of the first byte */
+    PAGE_ADDRESS, /* low 8 bits, in the page of this byte */
     LONG_ADDRESS  /* low 8 bits of 11, the others in bits 5 to 7 of the first byte */
 };
 
@@ -339,7 +340,7 @@ static uint8_t *put_text(uint8_t *to, const char *text, unsigned digit)
     return to;
 }
 
-static uint8_t *put_instruction(uint8_t *to, const struct second_instruction *i, size_t address)
+static uint8_t *put_instruction(uint8_t *to, const struct second_instruction *i, uint16_t at)
 {
     const struct form *form = &forms[i->operation];
     unsigned digit = 0;
@@ -368,7 +369,7 @@ static uint8_t *put_instruction(uint8_t *to, const struct second_instruction *i,
         to = put_number(to, i->data, 2);
         break;
     case PAGE_ADDRESS:
-        to = put_number(to, ((unsigned)address & PC_PAGE) | i->address, 3);
+        to = put_number(to, second_conditional_target(at, (uint8_t)i->address), 3);
         break;
     case LONG_ADDRESS:
         to = put_number(to, i->address, 3);
@@ -403,7 +404,7 @@ struct second_line second_line(const uint8_t *program, size_t program_len, size_
     }
     to = put_text(to, "  ", 0);
     if (readable) {
-        to = put_instruction(to, &reading.instruction, address);
+        to = put_instruction(to, &reading.instruction, (uint16_t)address);
     } else {
         to = put_text(to, "DB ", 0);
         to = put_number(to, program[address], 2);

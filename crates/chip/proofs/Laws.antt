@@ -19,7 +19,7 @@ use Rattle.machine.specs.declared.Counting.{Counting}
 use Rattle.machine.specs.declared.Counting.the-variants.{Stopped, Timer, Counter}
 use Rattle.machine.specs.declared.State.{State}
 use Rattle.effects.specs.Effect.{Write, Nothing, Byte, Pair, Effect, written}
-use Rattle.execute.proofs.Within.{WithinSizes, push-within, within}
+use Rattle.execute.proofs.Within.{WithinSizes, next-within, push-within, within}
 use Rattle.chip.specs.Admission.{lentNumber}
 use Rattle.chip.specs.Step.{Course, declined, accepted, resetState, called, withoutRequest, pcAfter, done, carriedBy, carried, course, ticked, settled, planOf, stepOf, ramAfter}
 use Rattle.chip.specs.declared.Outcome.{Outcome}
@@ -72,9 +72,6 @@ called-within s vector h l = push-within (withInterrupts s _) vector h l
 request-within : (s : State) → WithinSizes s → WithinSizes (withoutRequest s)
 unfolding withoutRequest
 request-within s h = h
-
-next-within : (pc : ℕ) → pc < 4096 → nextPc pc < 4096
-next-within pc l = omega arith
 
 after-within : (n pc : ℕ) → pc < 4096 → pcAfter n pc < 4096
 after-within n pc l = either (λ (x : ℕ). x < 4096) _ _ _ (λ t. next-within pc l) (λ t. next-within (nextPc pc) (next-within pc l))

@@ -5,6 +5,7 @@ pub mod Cutting
 pub mod Cycles
 pub mod Demand1
 pub mod Demand3
+pub mod Edges
 pub mod Exactly
 pub mod Fetches
 pub mod Fresh

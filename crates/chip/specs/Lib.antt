@@ -1,5 +1,6 @@
 pub mod Admission
 pub mod Cases
+pub mod Edges
 pub mod History
 pub mod Loop
 pub mod Refusals

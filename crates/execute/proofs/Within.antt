@@ -7,6 +7,7 @@ use mathlib.Core.Path.{_≡_}
 use native.Mathlib.Omega.{arith}
 use lib.Dec.{lit≤}
 use Rattle.isa.specs.Choice.{pick}
+use Rattle.isa.specs.Reading.{nextPc}
 use Rattle.isa.specs.declared.Condition.{Condition}
 use Rattle.isa.specs.declared.Condition.the-variants.{Jb, Jc, Jf0, Jf1, Jnc, Jni, Jnt0, Jnt1, Jnz, Jtf, Jt0, Jt1, Jz}
 use Rattle.isa.specs.declared.DigitMove.{DigitMove}
@@ -75,6 +76,9 @@ module _ {pc divider psw : ℕ} (h : Within pc divider psw) where
 in-page : (base d : ℕ) → base < 4096 → base / 256 * 256 + d % 256 < 4096
 in-page base d l = omega arith
 
+pub next-within : (pc : ℕ) → pc < 4096 → nextPc pc < 4096
+next-within pc l = omega arith
+
 far : (b : Bool) (a : ℕ) → pick b (a % 2048 + 2048) (a % 2048) < 4096
 unfolding pick
 far true a = omega arith
@@ -95,7 +99,7 @@ choose false x y f g = g
 
 module _ (s : State) (h : WithinSizes s) where
   jump-within : (taken : Bool) (base d : ℕ) → base < 4096 → WithinSizes (jumpIf taken s base d)
-  jump-within taken base d l = choose taken _ _ (at-pc h (in-page base d l)) h
+  jump-within taken base d l = choose taken _ _ (at-pc h (in-page (nextPc base) d (next-within base l))) h
 
   operated-within : (op : Operation) (x : ℕ) → WithinSizes (operated op x s)
   operated-within Add x = at-psw h (carries-bit-3 (s .psw) _ _ (h .bit-3))

@@ -1,5 +1,6 @@
 pub mod Arms
 pub mod Counts
+pub mod Edges
 pub mod Entries
 pub mod Everywhere
 pub mod Finding

@@ -1,4 +1,5 @@
 pub mod Choice
+pub mod Edges
 pub mod Numbers
 pub mod Pages
 pub mod Reading
