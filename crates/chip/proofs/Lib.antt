@@ -5,7 +5,6 @@ pub mod Cutting
 pub mod Cycles
 pub mod Demand1
 pub mod Demand3
-pub mod Edges
 pub mod Exactly
 pub mod Fetches
 pub mod Fresh
@@ -19,4 +18,5 @@ pub mod Runs
 pub mod Sharp
 pub mod Starting
 pub mod Story
+pub mod TableBytes
 mod Turns

@@ -1,6 +1,5 @@
 pub mod Admission
 pub mod Cases
-pub mod Edges
 pub mod History
 pub mod Loop
 pub mod Refusals

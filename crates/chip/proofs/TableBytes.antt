@@ -1,8 +1,8 @@
--- Document 02, item 3: the steps at the edges of pages, by computation from the definitions; and number 5 for a table byte.
+-- Number 5 for a table byte: "5 applies to the byte now addressed" (document 02, item 3).
 -- Assumes nothing.
 use Prim.Native.Nat.{ℕ, _<_, _≤_}
 use mathlib.Core.Bool.{Bool, true, false, _||_, false≢true}
-use mathlib.Core.List.{List, [], _∷_, map, flatMap}
+use mathlib.Core.List.{List, [], _∷_}
 use mathlib.Core.Path.{_≡_, refl}
 use native.Mathlib.Omega.{arith}
 use lib.Dec.{eqb}
@@ -19,26 +19,14 @@ use Rattle.machine.specs.State.{withPc}
 use Rattle.machine.specs.declared.State.{State}
 use Rattle.effects.specs.Effect.{written}
 use Rattle.effects.specs.declared.Event.the-variants.{Quiet}
-use Rattle.flow.specs.Stack.{pushed}
 use Rattle.execute.specs.Execute.{executed}
 use Rattle.chip.specs.Admission.{programAllowed, lentNumber, admission}
-use Rattle.chip.specs.Cases.{seen, holding, idle, blank, with}
-use Rattle.chip.specs.Edges.{edgeCases}
+use Rattle.chip.specs.Cases.{holding, idle, blank, with}
 use Rattle.chip.specs.Refusals.{Fetches, no-table-byte, TableByte, of-movp, of-movp3, of-jmpp}
-use Rattle.chip.specs.Run.{runOver, runOf}
-use Rattle.chip.specs.Step.{declined, accepted, resetState, called, withoutRequest, done, carried, course, ticked, settled, planBy, stepOf, ramAfter}
+use Rattle.chip.specs.Step.{declined, accepted, done, carried, course, planBy, stepOf, ramAfter}
 use Rattle.chip.proofs.Exactly.{exactly-to}
 
--- 28 conditional jumps, each taken and not, MOVP, MOVP3 and JMPP, at two edges of 1,024 bytes, four of 2,048 and six of 4,096.
-pub edge-cases-708 : length edgeCases ≡ 708
-unfolding flatMap pick
-edge-cases-708 = refl
-
-pub edges-stepped : map seen edgeCases ≡ map (λ c. c .want) edgeCases
-unfolding runOf runOver planBy settled ticked course carried done accepted declined resetState called withoutRequest written admission lentNumber executed pushed instructionAt decodedAt entryOf kindOf pick flatMap
-edges-stepped = refl
-
--- "5 applies to the byte now addressed": MOVP at 3FF of 1,024 bytes, whose table byte would stand at 434.
+-- MOVP at 3FF of 1,024 bytes, whose table byte would stand at 434.
 abbrev lastMovp : List ℕ
 lastMovp = holding 1024 0x3FF (0xA3 ∷ [])
 
