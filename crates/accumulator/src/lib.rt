@@ -3,8 +3,8 @@ use isa::Operation;
 use isa::Unary;
 use machine::State;
 ghost use mathlib.Core.Path.{_≡_};
-ghost use Prim.Native.Nat.{_≤_, _<_};
-ghost use Rattle.accumulator.specs.Accumulator.{added, operated, withAC, lowAdjusted, highAdjusted, decimalAdjusted, changed};
+ghost use Prim.Native.Nat.{_≤_};
+ghost use Rattle.accumulator.specs.Accumulator.{added, operated, withAC, decimalAdjusted, changed};
 ghost use Rattle.machine.specs.Psw.{withC, withCarries};
 
 fn with_c(psw: u8, c: u8) -> u8
@@ -54,32 +54,27 @@ fn with_a_and_c(s: State, a: u8, c: u8) -> State
     s.with_core(a, s.pc, with_c(s.psw, c))
 }
 
-// DA A, its first correction: the low digit.
-fn low_adjusted(a: u8, psw: u8) -> u16
-    ensures { λ v. ⌜ v ≡ lowAdjusted a psw ⌝ }
-    ensures { λ v. ⌜ v < 262 ⌝ }
-{
-    let low = (9 < a % 16) | (psw / 64 % 2 == 1);
-    if low { a as u16 + 6 } else { a as u16 }
-}
-
-// Its second: the high digit, and C.
-fn high_adjusted(s: State, v: u16) -> State
-    requires { ⌜ v < 262 ⌝ }
-    ensures { λ r. ⌜ r ≡ highAdjusted s v ⌝ }
-{
-    let high = (0xA0 <= v) | (s.psw / 128 == 1);
-    if high {
-        with_a_and_c(s, ((v + 0x60) % 256) as u8, 1)
-    } else {
-        s.with_a((v % 256) as u8)
-    }
-}
-
+// DA A: the Intel manual's two corrections, each below its sentence. Document 01 decides where a paper's wording differs: C is set and never
+// cleared, and AC stays, though note 2 of source documents 000, 003 and 004 clears both where nothing overflows.
 fn decimal_adjust(s: State) -> State
     ensures { λ r. ⌜ r ≡ decimalAdjusted s ⌝ }
 {
-    high_adjusted(s, low_adjusted(s.a, s.psw))
+    let mut a = s.a as u16;
+    let c = s.psw / 128;
+    let ac = s.psw / 64 % 2;
+    // "If the contents of bits 0-3 are greater than nine, or if AC is one, the accumulator is incremented by six."
+    let low = a % 16;
+    if (9 < low) | (ac == 1) {
+        a += 6;
+    }
+    // "The four high-order bits are then checked. If bits 4-7 exceed nine, or if C is one, these bits are increased by six."
+    // A carry of the first correction counts: FA has become 100 hex, and its high digit is 16 and not 0.
+    let high = a / 16;
+    if (9 < high) | (c == 1) {
+        a += 6 * 16;
+        return with_a_and_c(s, (a % 256) as u8, 1);
+    }
+    s.with_a((a % 256) as u8)
 }
 
 pub fn change(op: Unary, s: State) -> State
