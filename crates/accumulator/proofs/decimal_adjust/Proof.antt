@@ -23,9 +23,9 @@ above-nine v = go (leb 0xA0 v) refl
     go false e = sym (le-ltb 9 (v / 16) (omega (arith, leb-false 0xA0 v e)))
 
 -- Where the two ways past the first correction meet, a is v.
-first : (c : tie.Joined1) → lowAdjusted (c .before .before .before .before .args .s .a) (c .before .before .before .before .args .s .psw) ≡ c .if1 .a
+low-adjusted : (c : tie.Joined1) → lowAdjusted (c .before .before .before .before .args .s .a) (c .before .before .before .before .args .s .psw) ≡ c .if1 .a
 unfolding pick
-first c = ⊎-elim (λ w. simp (w .1, w .0 .taken)) (λ w. simp (w .1, w .0 .left)) (c .if1 .came)
+low-adjusted c = ⊎-elim (λ w. simp (w .1, w .0 .taken)) (λ w. simp (w .1, w .0 .left)) (c .if1 .came)
 
 add-a-2 : tie.Need-add-a-2
 add-a-2 c = ⊎-elim (λ w. omega arith) (λ w. omega arith) (c .before .before .if1 .came)
@@ -33,14 +33,14 @@ add-a-2 c = ⊎-elim (λ w. omega arith) (λ w. omega arith) (c .before .before 
 returns : tie.Need-returns
 unfolding pick
 returns c =
-    let j = c .before .before .before in
-    simp (c .with-a-and-c .ensures, first j, above-nine (j .if1 .a), c .before .if2 .taken)
+    let met = c .before .before .before in
+    simp (c .with-a-and-c .ensures, low-adjusted met, above-nine (met .if1 .a), c .before .if2 .taken)
 
 returns-2 : tie.Need-returns-2
 unfolding pick
 returns-2 c =
-    let j = c .before .before .before .before in
-    simp (c .with-a .ensures, first j, above-nine (j .if1 .a), c .before .before .if2 .left)
+    let met = c .before .before .before .before in
+    simp (c .with-a .ensures, low-adjusted met, above-nine (met .if1 .a), c .before .before .if2 .left)
 
 pub decimal-adjust-spec : {M : Type 1} → statement M
 decimal-adjust-spec =
