@@ -1,1 +1,3 @@
 pub mod Accumulator
+pub mod Rings
+pub mod Rotates

@@ -1,0 +1,185 @@
+-- Document 02, item 6, of the chip.
+-- Assumes nothing.
+use Prim.Native.Nat.{ℕ, _+_, _%_, _<_}
+use mathlib.Core.Bool.{Bool, false, or-false}
+use mathlib.Core.List.{List, [], _∷_, map, append-assoc, append-nil}
+use mathlib.Core.Path.{_≡_, refl, sym, ap, _∙_, subst}
+use native.Mathlib.Nat.{add-assoc, add-zero, zero-add}
+use native.Mathlib.Omega.{arith}
+use lib.Dec.{ltb}
+use lib.ListN.{length}
+use borrow.Author.Tests.{le-ltb}
+use Rattle.isa.specs.Choice.{pick}
+use Rattle.isa.specs.Numbers.{given}
+use Rattle.isa.specs.Reading.{sized, nextPc, lacks, byteAt, instructionAt, decodedAt}
+use Rattle.isa.specs.Sheet.{kindOf, entryOf, instructionOf}
+use Rattle.machine.specs.Counting.{counted}
+use Rattle.machine.specs.Pins.{t1Pin, isHigh}
+use Rattle.machine.specs.State.{countOf, withPc, withCount}
+use Rattle.machine.specs.declared.Count.{Count}
+use Rattle.machine.specs.declared.Counting.the-variants.{Stopped}
+use Rattle.machine.specs.declared.State.{State}
+use Rattle.writer.specs.Standing.{StandsAt}
+use Rattle.accumulator.specs.Rotates.{Rotate, Rl, Rlc, Rr, Rrc, Swap, Nop, codeOf, turned, rotated, Law, Holds}
+use Rattle.accumulator.proofs.Rotates.{one-each, cycles-bytes}
+use Rattle.effects.specs.Effect.{Nothing, written}
+use Rattle.effects.specs.Moves.{quiet}
+use Rattle.effects.specs.declared.Event.the-variants.{Quiet}
+use Rattle.execute.specs.Execute.{executed}
+use Rattle.chip.specs.History.{Steps, more}
+use Rattle.chip.specs.Refusals.{Fetches}
+use Rattle.chip.specs.Run.{Progress, begun, gone}
+use Rattle.chip.specs.Step.{Plan, accepted, done, carried, course, remembered, ticked, settled, planBy, planOf}
+use Rattle.rotates.specs.Strings.{Fetching, none, step, levels, countedOver, over, Replaced}
+
+-- ---- one step
+-- The instruction whose one byte is b.
+read-one :
+    (program : List ℕ) (a b : ℕ) → lacks program a ≡ false → byteAt program a ≡ b → entryOf b .bytes ≡ 1
+    → instructionAt program a ≡ given (sized (instructionOf b 0) 1)
+unfolding instructionAt decodedAt pick
+read-one program a b l e n = rw (l, e, n)
+
+module _ (program ram : List ℕ) (s : State) (first second : ℕ) (f : Fetches program ram s first second) where
+  comes-to :
+      (b : ℕ) → byteAt program (s .pc) ≡ b → instructionAt program (s .pc) ≡ given (sized (instructionOf b 0) 1)
+      → course program ram s first second
+      ≡ done (executed (instructionOf b 0) program ram (withPc s (nextPc (s .pc))) (s .pc) first second) (entryOf b .cycles) s
+  unfolding course carried pick
+  comes-to b e i = rw (f .admitted, f .running, f .no-external, f .no-timer, i, e)
+
+-- What the step over a rotate does: A and C as the string says, the next PC, and one cycle counted.
+abbrev turnedStep : Rotate → State → ℕ → Plan
+turnedStep r s first =
+    record {
+      number = 0;
+      state =
+          withCount (withPc (turned r s) (nextPc (s .pc))) (counted (s .counting) (countOf s) (isHigh t1Pin first) (s .interrupts .tcnti));
+      event = Quiet;
+      write = Nothing;
+      cycles = entryOf (codeOf r) .cycles;
+    }
+
+-- By the step's definitions the instruction that the sheet has for its code does what the string says, and goes by A and C alone and changes
+-- nothing else.
+record Meant (r : Rotate) : Type 0 where
+  does :
+      (program ram : List ℕ) (s : State) (base first second : ℕ)
+      → executed (instructionOf (codeOf r) 0) program ram s base first second ≡ quiet (turned r s)
+  apart : (s : State) (pc : ℕ) (c : Count) → turned r (withCount (withPc s pc) c) ≡ withCount (withPc (turned r s) pc) c
+  counting : (s : State) → turned r s .counting ≡ s .counting
+  interrupts : (s : State) → turned r s .interrupts ≡ s .interrupts
+
+meant : (r : Rotate) → Meant r
+unfolding executed entryOf kindOf pick
+meant Rl = record { does = λ p m s b f g. refl; apart = λ s pc c. refl; counting = λ s. refl; interrupts = λ s. refl }
+meant Rlc = record { does = λ p m s b f g. refl; apart = λ s pc c. refl; counting = λ s. refl; interrupts = λ s. refl }
+meant Rr = record { does = λ p m s b f g. refl; apart = λ s pc c. refl; counting = λ s. refl; interrupts = λ s. refl }
+meant Rrc = record { does = λ p m s b f g. refl; apart = λ s pc c. refl; counting = λ s. refl; interrupts = λ s. refl }
+meant Swap = record { does = λ p m s b f g. refl; apart = λ s pc c. refl; counting = λ s. refl; interrupts = λ s. refl }
+meant Nop = record { does = λ p m s b f g. refl; apart = λ s pc c. refl; counting = λ s. refl; interrupts = λ s. refl }
+
+step-over :
+    (program ram : List ℕ) (s : State) (first second : ℕ) (r : Rotate) → Fetches program ram s first second
+    → lacks program (s .pc) ≡ false → byteAt program (s .pc) ≡ codeOf r
+    → planOf program ram s first second ≡ turnedStep r s first
+unfolding planBy done accepted settled ticked pick
+step-over program ram s first second r f l e =
+    let i = read-one program (s .pc) (codeOf r) l e (one-each r .0) in
+    rw (comes-to program ram s first second f (codeOf r) e i, meant r .does, one-each r .1, meant r .apart s (nextPc (s .pc)) (countOf s), meant r .counting s, meant r .interrupts s)
+
+-- ---- the steps over a string
+rotated-apart : (rs : List Rotate) (s : State) (pc : ℕ) (c : Count) → rotated rs (withCount (withPc s pc) c) ≡ withCount (withPc (rotated rs s) pc) c
+rotated-apart [] s pc c = refl
+rotated-apart (r ∷ rs) s pc c = ap (rotated rs) (meant r .apart s pc c) ∙ rotated-apart rs (turned r s) pc c
+
+over-none : (k : Progress) → k ≡ over [] k []
+over-none k = simp (add-zero, append-nil)
+
+over-more :
+    (r : Rotate) (rs : List Rotate) (k : Progress) (first : ℕ) (rest : List Bool)
+    → over rs (gone k (turnedStep r (k .state) first)) rest ≡ over (r ∷ rs) k (isHigh t1Pin first ∷ rest)
+unfolding written
+over-more r rs k first rest =
+    rw (rotated-apart rs (turned r (k .state)) (nextPc (k .state .pc)) (counted (k .state .counting) (countOf (k .state)) (isHigh t1Pin first) (k .state .interrupts .tcnti)), meant r .counting (k .state), meant r .interrupts (k .state), add-assoc (k .used) _ _, add-assoc (k .cycles) _ _, append-assoc)
+
+-- The steps over a string lead where `over` says: all of it.
+pub string-steps :
+    {program : List ℕ} (rs : List Rotate) {k m : Progress} → StandsAt program (k .state .pc) (map codeOf rs)
+    → (g : Fetching program k (length rs) m) → m ≡ over rs k (levels g)
+string-steps [] {k} w none = over-none k
+string-steps {program} (r ∷ rs) {k} w (step first second f g) =
+    let one = step-over program (k .ram) (k .state) first second r f (w .0) (w .1) in
+    string-steps rs (subst (λ (p : Plan). StandsAt program (p .state .pc) (map codeOf rs)) (sym one) (w .2)) g
+    ∙ ap (λ (p : Plan). over rs (gone k p) (levels g)) one ∙ over-more r rs k first (levels g)
+
+-- None of them is refused: they go on a history of accepted steps, so a run goes through them (chip's `over-through`).
+pub string-accepted :
+    {program ram : List ℕ} {s : State} (rs : List Rotate) {k m : Progress} → StandsAt program (k .state .pc) (map codeOf rs)
+    → Fetching program k (length rs) m → Steps program ram s k → Steps program ram s m
+string-accepted [] w none h = h
+string-accepted {program} (r ∷ rs) {k} w (step first second f g) h =
+    let one = step-over program (k .ram) (k .state) first second r f (w .0) (w .1) in
+    string-accepted rs (subst (λ (p : Plan). StandsAt program (p .state .pc) (map codeOf rs)) (sym one) (w .2)) g
+    (more first second h (ap (λ (p : Plan). p .number) one))
+
+-- ---- a counter that stands still
+stands-one : (c : Count) (t1 enabled : Bool) → c .t < 256 → counted Stopped c t1 enabled ≡ remembered c t1
+stands-one c t1 enabled l =
+    let kept : (c .t + 0) % 256 ≡ c .t = omega arith in
+    let low : ltb 255 (c .t + 0) ≡ false = le-ltb 255 (c .t + 0) (omega arith) in
+    rw (kept, low, or-false (c .tf), or-false (c .request))
+
+stands-over :
+    (c : Count) (enabled : Bool) (t1 : List Bool) → c .t < 256
+    → countedOver Stopped enabled c t1 ≡ remembered c (countedOver Stopped enabled c t1 .last)
+stands-over c enabled [] l = refl
+stands-over c enabled (t ∷ t1) l =
+    subst (λ (d : Count). countedOver Stopped enabled d t1 ≡ remembered c (countedOver Stopped enabled d t1 .last))
+    (sym (stands-one c t enabled l)) (stands-over (remembered c t) enabled t1 l)
+
+over-standing :
+    (rs : List Rotate) (k m : Progress) (t1 : List Bool) → m ≡ over rs k t1 → k .state .counting ≡ Stopped → k .state .t < 256
+    → countOf (m .state) ≡ remembered (countOf (k .state)) (m .state .last)
+over-standing rs k m t1 e still l = rw (e, still) (stands-over (countOf (k .state)) (k .state .interrupts .tcnti) t1 l)
+
+-- ---- one string instead of another
+over-same :
+    (string instead : List Rotate) (k : Progress) (t1 instead-t1 : List Bool) → rotated string (k .state) ≡ rotated instead (k .state)
+    → length string ≡ length instead → t1 ≡ instead-t1 → over string k t1 ≡ over instead k instead-t1
+over-same string instead k t1 instead-t1 e n t = rw (cycles-bytes string, cycles-bytes instead, e, n, t)
+
+module _
+    {l : Law} (holds : Holds l) {program patched ram : List ℕ} {s : State} {x y : Progress} (a-byte : s .a < 256) (psw-byte : s .psw < 256)
+    (stands : StandsAt program (s .pc) (map codeOf (l .string))) (instead-stands : StandsAt patched (s .pc) (map codeOf (l .instead)))
+    (g : Fetching program (begun ram s) (length (l .string)) x) (h : Fetching patched (begun ram s) (length (l .instead)) y) where
+  pub replaced : Replaced l ram s x y (levels g) (levels h)
+  replaced =
+      let p = string-steps (l .string) stands g in
+      let q = string-steps (l .instead) instead-stands h in
+      let e = holds .same s a-byte psw-byte in
+      record {
+        leaves = p;
+        instead-leaves = q;
+        a = rw (p, q, e);
+        c = rw (p, q, e);
+        cycles = rw (p, zero-add) (holds .cycles);
+        instead-cycles = rw (q, zero-add) (holds .instead-cycles);
+        state = rw (p, q, e);
+        memory = rw (p, q);
+      }
+
+  -- Where both have as many bytes, and T1 the same levels, nothing differs at all.
+  pub replaced-exactly : length (l .string) ≡ length (l .instead) → levels g ≡ levels h → x ≡ y
+  replaced-exactly n t =
+      replaced .leaves ∙ over-same (l .string) (l .instead) (begun ram s) (levels g) (levels h) (holds .same s a-byte psw-byte) n t
+      ∙ sym (replaced .instead-leaves)
+
+  -- Where the counter stands still, nothing differs but PC and T1's level.
+  pub replaced-standing :
+      s .counting ≡ Stopped → s .t < 256
+      → y .state ≡ withCount (withPc (x .state) (y .state .pc)) (remembered (countOf (x .state)) (y .state .last))
+  replaced-standing still small =
+      let p = over-standing (l .string) (begun ram s) x (levels g) (replaced .leaves) still small in
+      let q = over-standing (l .instead) (begun ram s) y (levels h) (replaced .instead-leaves) still small in
+      replaced .state ∙ ap (withCount (withPc (x .state) (y .state .pc))) (q ∙ ap (λ (c : Count). remembered c (y .state .last)) (sym p))

@@ -1,0 +1,70 @@
+-- Document 02, item 6, of the chip: the steps over a string of rotates that stands in a program.
+-- Assumes nothing.
+use Prim.Native.Nat.{ℕ, zero, suc, _+_}
+use mathlib.Core.Bool.{Bool}
+use mathlib.Core.List.{List, [], _∷_, _++_}
+use mathlib.Core.Path.{_≡_}
+use lib.ListN.{length, replicate}
+use Rattle.isa.specs.Reading.{nextPc}
+use Rattle.machine.specs.Counting.{counted}
+use Rattle.machine.specs.Pins.{t1Pin, isHigh}
+use Rattle.machine.specs.Psw.{bitC}
+use Rattle.machine.specs.State.{countOf, withPc, withCount}
+use Rattle.machine.specs.declared.Count.{Count}
+use Rattle.machine.specs.declared.Counting.{Counting}
+use Rattle.machine.specs.declared.State.{State}
+use Rattle.accumulator.specs.Rotates.{Rotate, rotated, cyclesOf, Law}
+use Rattle.effects.specs.declared.Event.the-variants.{Quiet}
+use Rattle.chip.specs.History.{after}
+use Rattle.chip.specs.Refusals.{Fetches}
+use Rattle.chip.specs.Run.{Progress, begun}
+
+-- n steps from k to m, one after the other. Each comes to fetch: no reset and no interrupt call comes between.
+pub data Fetching (program : List ℕ) : Progress → ℕ → Progress → Type 0 where
+  none : {k : Progress} → Fetching program k 0 k
+  step :
+      {k m : Progress} {n : ℕ} (first second : ℕ) → Fetches program (k .ram) (k .state) first second
+      → Fetching program (after program k first second) n m → Fetching program k (suc n) m
+
+-- T1's level in the first cycle of each. (A rotate has no second.)
+abbrev pub levels : {program : List ℕ} {k m : Progress} {n : ℕ} → Fetching program k n m → List Bool
+levels none = []
+levels (step first second f g) = isHigh t1Pin first ∷ levels g
+
+-- PC past n bytes.
+abbrev pub pcPast : ℕ → ℕ → ℕ
+pcPast zero pc = pc
+pcPast (suc n) pc = pcPast n (nextPc pc)
+
+-- The counter after a cycle with each of these levels of T1.
+abbrev pub countedOver : Counting → Bool → Count → List Bool → Count
+countedOver counting enabled c [] = c
+countedOver counting enabled c (t1 ∷ rest) = countedOver counting enabled (counted counting c t1 enabled) rest
+
+-- Where the steps over a string lead, all of it: A and C are what the string makes of them, PC is past its bytes, its cycles are counted
+-- and have used as many samples, there is no event, and all else is as it was.
+abbrev pub over : List Rotate → Progress → List Bool → Progress
+over rs k t1 =
+    record {
+      ram = k .ram;
+      state =
+          withCount
+          (withPc (rotated rs (k .state)) (pcPast (length rs) (k .state .pc)))
+          (countedOver (k .state .counting) (k .state .interrupts .tcnti) (countOf (k .state)) t1);
+      used = k .used + cyclesOf rs;
+      cycles = k .cycles + cyclesOf rs;
+      events = k .events ++ replicate (length rs) Quiet;
+    }
+
+-- From one RAM and state, x is where the steps over a law's string lead, and y where those over the string that stands instead lead.
+pub record Replaced (l : Law) (ram : List ℕ) (s : State) (x y : Progress) (t1 instead-t1 : List Bool) : Type 0 where
+  pub leaves : x ≡ over (l .string) (begun ram s) t1
+  pub instead-leaves : y ≡ over (l .instead) (begun ram s) instead-t1
+  -- The same A and C, in as many cycles as the law says.
+  pub a : x .state .a ≡ y .state .a
+  pub c : bitC (x .state .psw) ≡ bitC (y .state .psw)
+  pub cycles : x .cycles ≡ l .cycles
+  pub instead-cycles : y .cycles ≡ l .instead-cycles
+  -- All else is the same too, but PC and the counter: T, its divider, TF, the stored request and T1's level.
+  pub state : y .state ≡ withCount (withPc (x .state) (y .state .pc)) (countOf (y .state))
+  pub memory : x .ram ≡ y .ram
