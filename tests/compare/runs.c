@@ -1,38 +1,33 @@
 /*
  * Runs: mcs48_run against second_run over random programs and lists of samples. Compared are
  * the number, the totals, the state and RAM; and a run with the same run cut in pieces, and
- * with its steps one at a time.
+ * with its steps one at a time. In run_rotates.c, strings that may stand for each other.
  *
  * --count N: runs in each case.
  */
-#include "chips.h"
+#include "runs.h"
+
 #include "mcs48.h"
 
 #include <stdio.h>
 #include <string.h>
 
-enum { SAMPLES_MOST = 999, TOTALS_MOST = 3, PIECES_SHOWN = 64 };
+enum { TOTALS_MOST = 3, PIECES_SHOWN = 64 };
 
 /* The run under way. */
 
-static struct chip chip;
-static uint32_t samples[SAMPLES_MOST];
-static size_t samples_len;
+struct chip chip;
+uint32_t samples[SAMPLES_MOST];
+size_t samples_len;
 static uint64_t totals[TOTALS_MOST]; /* before the run */
 static size_t totals_len;
 
-static struct lent_chip lent;
+struct lent_chip lent;
 static struct lent lent_samples;
 static struct lent lent_totals;
 
-struct result {
-    uint64_t number;
-    uint64_t samples;
-    uint64_t cycles;
-};
-
 static struct result proved;
-static struct result second;
+struct result second;
 static size_t pieces[PIECES_SHOWN]; /* the lengths of the lists of a run that is cut */
 static size_t pieces_len;
 
@@ -75,7 +70,7 @@ static void check_totals(void)
     came_back(&lent_totals, "the list of totals", expected);
 }
 
-static void check_run(void)
+void check_run(void)
 {
     pieces_len = 0;
     totals_len = below(TOTALS_MOST + 1);
@@ -265,12 +260,17 @@ static void random_samples(size_t len)
     }
 }
 
-static void random_run(bool enduring, size_t len)
+void random_chip(void)
 {
     random_sizes(&chip);
     random_program(&chip);
     random_state(&chip);
     random_ram(&chip);
+}
+
+static void random_run(bool enduring, size_t len)
+{
+    random_chip();
     if (enduring)
         enduring_program();
     random_samples(len);
@@ -422,6 +422,7 @@ int main(int argc, char **argv)
     lent_totals = new_room(sizeof totals);
     run_cases();
     refused_cases();
+    rotate_cases();
     meeting_case();
     return finish();
 }

@@ -1,0 +1,31 @@
+/*
+ * The run under way, which the files of the driver runs share.
+ */
+#ifndef RUNS_H
+#define RUNS_H
+
+#include "chips.h"
+
+enum { SAMPLES_MOST = 999 };
+
+struct result {
+    uint64_t number;
+    uint64_t samples;
+    uint64_t cycles;
+};
+
+extern struct chip chip;
+extern uint32_t samples[SAMPLES_MOST];
+extern size_t samples_len;
+extern struct lent_chip lent;
+extern struct result second; /* what second_run has answered */
+
+/* A chip at random, with a program of any bytes. */
+void random_chip(void);
+
+/* Gives the run to both emulators and compares all that they answer and leave. */
+void check_run(void);
+
+void rotate_cases(void);
+
+#endif
