@@ -16,8 +16,9 @@ use Rattle.chip.specs.Cases.{seen, blank, idle}
 use Rattle.chip.specs.Run.{begun, runOver, runOf}
 use Rattle.chip.specs.Step.{declined, accepted, done, carried, course, ticked, settled, planBy}
 use Rattle.rotates.specs.Example.{start, fourRl, oneSwap, filledSwap, runs, reached}
-use Rattle.rotates.specs.Strings.{Fetching, none, step, levels, Replaced}
-use Rattle.rotates.proofs.Stepping.{replaced, replaced-exactly}
+use Rattle.rotates.specs.Strings.{Fetching, none, step, levels, Replaced, SameWay}
+use Rattle.rotates.proofs.Filling.{same-way}
+use Rattle.rotates.proofs.Stepping.{replaced}
 
 pub runs-seen : map seen runs ≡ map (λ c. c .want) runs
 unfolding runOf runOver planBy settled ticked course carried done accepted declined written admission lentNumber executed instructionAt decodedAt entryOf kindOf pick
@@ -36,21 +37,12 @@ pub one : Fetching oneSwap (begun blank start) 1 (reached oneSwap 1)
 unfolding admission lentNumber pick
 one = step idle idle (record { admitted = refl; running = refl; no-external = refl; no-timer = refl }) none
 
-filled : Fetching filledSwap (begun blank start) 4 (reached filledSwap 4)
-unfolding planBy settled ticked course carried done accepted declined written admission lentNumber executed instructionAt decodedAt entryOf kindOf pick
-filled =
-    step idle idle (record { admitted = refl; running = refl; no-external = refl; no-timer = refl })
-    (step idle idle (record { admitted = refl; running = refl; no-external = refl; no-timer = refl })
-    (step idle idle (record { admitted = refl; running = refl; no-external = refl; no-timer = refl })
-    (step idle idle (record { admitted = refl; running = refl; no-external = refl; no-timer = refl }) none)))
-
 pub swap-instead :
     Replaced (law (replicate 4 Rl) 4 (Swap ∷ []) 1) blank start (reached fourRl 4) (reached oneSwap 1) (levels four) (levels one)
 swap-instead =
     replaced (laws-hold .0) (lit≤ tt) (lit≤ tt) ((refl, refl, (refl, refl, (refl, refl, (refl, refl, tt))))) ((refl, refl, tt)) four one
 
-pub swap-filled : reached fourRl 4 ≡ reached filledSwap 4
-unfolding four filled
+pub swap-filled : SameWay four filledSwap 4
 swap-filled =
-    replaced-exactly (filled-laws-hold .0) (lit≤ tt) (lit≤ tt) ((refl, refl, (refl, refl, (refl, refl, (refl, refl, tt)))))
-    ((refl, refl, (refl, refl, (refl, refl, (refl, refl, tt))))) four filled refl refl
+    same-way (filled-laws-hold .0) (lit≤ tt) (lit≤ tt) refl refl ((refl, refl, (refl, refl, (refl, refl, (refl, refl, tt)))))
+    ((refl, refl, (refl, refl, (refl, refl, (refl, refl, tt))))) four

@@ -49,7 +49,7 @@ module _ (program ram : List ℕ) (s : State) (first second : ℕ) (f : Fetches 
   comes-to b e i = rw (f .admitted, f .running, f .no-external, f .no-timer, i, e)
 
 -- What the step over a rotate does: A and C as the string says, the next PC, and one cycle counted.
-abbrev turnedStep : Rotate → State → ℕ → Plan
+abbrev pub turnedStep : Rotate → State → ℕ → Plan
 turnedStep r s first =
     record {
       number = 0;
@@ -62,15 +62,15 @@ turnedStep r s first =
 
 -- By the step's definitions the instruction that the sheet has for its code does what the string says, and goes by A and C alone and changes
 -- nothing else.
-record Meant (r : Rotate) : Type 0 where
-  does :
+pub record Meant (r : Rotate) : Type 0 where
+  pub does :
       (program ram : List ℕ) (s : State) (base first second : ℕ)
       → executed (instructionOf (codeOf r) 0) program ram s base first second ≡ quiet (turned r s)
-  apart : (s : State) (pc : ℕ) (c : Count) → turned r (withCount (withPc s pc) c) ≡ withCount (withPc (turned r s) pc) c
-  counting : (s : State) → turned r s .counting ≡ s .counting
-  interrupts : (s : State) → turned r s .interrupts ≡ s .interrupts
+  pub apart : (s : State) (pc : ℕ) (c : Count) → turned r (withCount (withPc s pc) c) ≡ withCount (withPc (turned r s) pc) c
+  pub counting : (s : State) → turned r s .counting ≡ s .counting
+  pub interrupts : (s : State) → turned r s .interrupts ≡ s .interrupts
 
-meant : (r : Rotate) → Meant r
+pub meant : (r : Rotate) → Meant r
 unfolding executed entryOf kindOf pick
 meant Rl = record { does = λ p m s b f g. refl; apart = λ s pc c. refl; counting = λ s. refl; interrupts = λ s. refl }
 meant Rlc = record { does = λ p m s b f g. refl; apart = λ s pc c. refl; counting = λ s. refl; interrupts = λ s. refl }
@@ -79,7 +79,7 @@ meant Rrc = record { does = λ p m s b f g. refl; apart = λ s pc c. refl; count
 meant Swap = record { does = λ p m s b f g. refl; apart = λ s pc c. refl; counting = λ s. refl; interrupts = λ s. refl }
 meant Nop = record { does = λ p m s b f g. refl; apart = λ s pc c. refl; counting = λ s. refl; interrupts = λ s. refl }
 
-step-over :
+pub step-over :
     (program ram : List ℕ) (s : State) (first second : ℕ) (r : Rotate) → Fetches program ram s first second
     → lacks program (s .pc) ≡ false → byteAt program (s .pc) ≡ codeOf r
     → planOf program ram s first second ≡ turnedStep r s first

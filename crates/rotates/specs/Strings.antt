@@ -2,7 +2,7 @@
 -- Assumes nothing.
 use Prim.Native.Nat.{ℕ, zero, suc, _+_}
 use mathlib.Core.Bool.{Bool}
-use mathlib.Core.List.{List, [], _∷_, _++_}
+use mathlib.Core.List.{List, [], _∷_, _++_, map}
 use mathlib.Core.Path.{_≡_}
 use lib.ListN.{length, replicate}
 use Rattle.isa.specs.Reading.{nextPc}
@@ -26,10 +26,18 @@ pub data Fetching (program : List ℕ) : Progress → ℕ → Progress → Type 
       {k m : Progress} {n : ℕ} (first second : ℕ) → Fetches program (k .ram) (k .state) first second
       → Fetching program (after program k first second) n m → Fetching program k (suc n) m
 
+-- The two samples of each.
+pub record Samples : Type 0 where
+  pub first : ℕ
+  pub second : ℕ
+
+abbrev pub samplesOf : {program : List ℕ} {k m : Progress} {n : ℕ} → Fetching program k n m → List Samples
+samplesOf none = []
+samplesOf (step first second f g) = record { first = first; second = second } ∷ samplesOf g
+
 -- T1's level in the first cycle of each. (A rotate has no second.)
 abbrev pub levels : {program : List ℕ} {k m : Progress} {n : ℕ} → Fetching program k n m → List Bool
-levels none = []
-levels (step first second f g) = isHigh t1Pin first ∷ levels g
+levels g = map (λ x. isHigh t1Pin (x .first)) (samplesOf g)
 
 -- PC past n bytes.
 abbrev pub pcPast : ℕ → ℕ → ℕ
@@ -68,3 +76,8 @@ pub record Replaced (l : Law) (ram : List ℕ) (s : State) (x y : Progress) (t1 
   -- All else is the same too, but PC and the counter: T, its divider, TF, the stored request and T1's level.
   pub state : y .state ≡ withCount (withPc (x .state) (y .state .pc)) (countOf (y .state))
   pub memory : x .ram ≡ y .ram
+
+-- In another program i steps go the way of g: with the same samples, and to the same end.
+pub record SameWay {program : List ℕ} {k m : Progress} {n : ℕ} (g : Fetching program k n m) (patched : List ℕ) (i : ℕ) : Type 0 where
+  pub way : Fetching patched k i m
+  pub samples : samplesOf way ≡ samplesOf g
