@@ -15,13 +15,9 @@ use Rattle.machine.specs.Psw.{bitC}
 use Rattle.machine.specs.declared.State.{State}
 use Rattle.accumulator.specs.Rings.{Ring, Alone, WithC, bits, Turns, rl, rr, swap, rlc, rrc, nop, TurnsBy, none, more}
 use Rattle.accumulator.specs.Rotates.{Rotate, Rl, Rlc, Rr, Rrc, Swap, Nop, turned, rotated, law, Same, Holds}
-use Rattle.accumulator.proofs.Rotates.{cycles-bytes, plain, same-by-values}
+use Rattle.accumulator.proofs.Rotates.{cycles-bytes, plain, same-by-values, rotated-append}
 
 -- ---- a part of a string may be replaced where it stands
-rotated-append : (xs ys : List Rotate) (s : State) → rotated (xs ++ ys) s ≡ rotated ys (rotated xs s)
-rotated-append [] ys s = refl
-rotated-append (x ∷ xs) ys s = rotated-append xs ys (turned x s)
-
 -- A and PSW stay bytes.
 turned-bytes : (r : Rotate) (s : State) → s .a < 256 → s .psw < 256 → (turned r s .a < 256) × (turned r s .psw < 256)
 turned-bytes Rl s l m = (omega arith, m)

@@ -1,10 +1,10 @@
 -- Document 02, item 6: the laws of the rotates, of A and C.
 -- Assumes nothing.
-use Prim.Native.Nat.{ℕ, _+_, _*_, _/_, _%_, _≤_, _<_}
-use mathlib.Core.List.{List, [], _∷_, map}
+use Prim.Native.Nat.{ℕ, zero, suc, _+_, _-_, _*_, _/_, _%_, _≤_, _<_}
+use mathlib.Core.List.{List, [], _∷_, _++_, map}
 use mathlib.Core.Path.{_≡_, refl, sym, ap, _∙_}
 use native.Mathlib.Omega.{arith}
-use lib.ListN.{length, length-append, length-replicate}
+use lib.ListN.{length, replicate, length-append, length-replicate}
 use Rattle.isa.specs.Choice.{pick, listed}
 use Rattle.isa.specs.Sheet.{entryOf, kindOf}
 use Rattle.isa.proofs.Everywhere.{everywhere}
@@ -121,10 +121,27 @@ pub laws-hold : AllHold laws
 unfolding entryOf kindOf pick
 laws-hold = all-hold laws refl
 
-pub filled-laws-hold : AllHold (map fill laws)
-unfolding entryOf kindOf pick
-filled-laws-hold = all-hold (map fill laws) refl
+-- ---- filled up with NOP
+pub rotated-append : (xs ys : List Rotate) (s : State) → rotated (xs ++ ys) s ≡ rotated ys (rotated xs s)
+rotated-append [] ys s = refl
+rotated-append (x ∷ xs) ys s = rotated-append xs ys (turned x s)
 
--- A law that is filled has as many bytes on either side.
+nops-nothing : (n : ℕ) (s : State) → rotated (replicate n Nop) s ≡ s
+nops-nothing zero s = refl
+nops-nothing (suc n) s = nops-nothing n s
+
+-- A law that is filled has as many bytes on either side,
 pub filled-length : (l : Law) → length (l .instead) ≤ length (l .string) → length (fill l .string) ≡ length (fill l .instead)
 filled-length l le = rw (length-append, length-replicate) (omega arith)
+
+-- and holds if the law does.
+pub filled-holds : (l : Law) → Holds l → length (l .instead) ≤ length (l .string) → Holds (fill l)
+filled-holds l h le =
+    record {
+      same = λ s a psw.
+          h .same s a psw ∙ sym (nops-nothing (length (l .string) - length (l .instead)) (rotated (l .instead) s))
+          ∙ sym (rotated-append (l .instead) (replicate (length (l .string) - length (l .instead)) Nop) s);
+      cycles = h .cycles;
+      instead-cycles =
+          cycles-bytes (fill l .instead) ∙ sym (filled-length l le) ∙ sym (cycles-bytes (l .string)) ∙ h .cycles;
+    }

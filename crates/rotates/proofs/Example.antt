@@ -8,7 +8,7 @@ use Rattle.isa.specs.Choice.{pick}
 use Rattle.isa.specs.Reading.{instructionAt, decodedAt}
 use Rattle.isa.specs.Sheet.{kindOf, entryOf}
 use Rattle.accumulator.specs.Rotates.{Rl, Swap, law}
-use Rattle.accumulator.proofs.Rotates.{laws-hold, filled-laws-hold}
+use Rattle.accumulator.proofs.Rotates.{laws-hold, filled-holds}
 use Rattle.effects.specs.Effect.{written}
 use Rattle.execute.specs.Execute.{executed}
 use Rattle.chip.specs.Admission.{lentNumber, admission}
@@ -44,5 +44,5 @@ swap-instead =
 
 pub swap-filled : SameWay four filledSwap 4
 swap-filled =
-    same-way (filled-laws-hold .0) (lit≤ tt) (lit≤ tt) refl refl ((refl, refl, (refl, refl, (refl, refl, (refl, refl, tt)))))
+    same-way (filled-holds (law (replicate 4 Rl) 4 (Swap ∷ []) 1) (laws-hold .0) (lit≤ tt)) (lit≤ tt) (lit≤ tt) refl refl ((refl, refl, (refl, refl, (refl, refl, (refl, refl, tt)))))
     ((refl, refl, (refl, refl, (refl, refl, (refl, refl, tt))))) four
