@@ -55,7 +55,7 @@ static struct end run_proved(size_t most)
     mcs48_power_up(end.state, sizeof end.state);
     double before = now();
     while (number == 0 && SAMPLES - end.used >= 2) {
-        number = mcs48_run(program, PROGRAM, end.ram, RAM, end.state, STATE_BYTES,
+        number = mcs48_run(MCS48_INTEL, program, PROGRAM, end.ram, RAM, end.state, STATE_BYTES,
                            samples + end.used, piece(end.used, most), totals, 2);
         end.used += totals[0];
     }
@@ -74,8 +74,8 @@ static struct end run_second(size_t most)
     second_power_up(&state);
     double before = now();
     while (totals.number == 0 && SAMPLES - end.used >= 2) {
-        totals = second_run(program, PROGRAM, end.ram, RAM, &state, samples + end.used,
-                            piece(end.used, most));
+        totals = second_run(SECOND_INTEL, program, PROGRAM, end.ram, RAM, &state,
+                            samples + end.used, piece(end.used, most));
         end.used += totals.samples;
     }
     end.ns = now() - before;
@@ -93,8 +93,9 @@ static uint64_t count_steps(void)
 
     second_power_up(&state);
     for (size_t used = 0; SAMPLES - used >= 2; steps++)
-        used += second_step(program, PROGRAM, ram, RAM, &state, samples[used], samples[used + 1])
-                    .cycles;
+        used += second_step(SECOND_INTEL, program, PROGRAM, ram, RAM, &state, samples[used],
+                            samples[used + 1])
+                    .samples;
     return steps;
 }
 

@@ -26,7 +26,7 @@ const char *const state_byte_names[STATE_BYTES] = {
     "P2",
     "BUS",
     "BUS driven",
-    "byte 20",
+    "mode",
     "byte 21",
     "byte 22",
     "byte 23",
@@ -55,6 +55,7 @@ void bytes_of_state(uint8_t bytes[STATE_BYTES], const struct second_state *state
     bytes[BYTE_P2] = state->p2;
     bytes[BYTE_BUS] = state->bus;
     bytes[BYTE_BUS_DRIVEN] = state->bus_driven;
+    bytes[BYTE_MODE] = state->mode;
 }
 
 bool known_to_second(const uint8_t *bytes, size_t len)
@@ -88,5 +89,6 @@ struct second_state state_of_bytes(const uint8_t *bytes, size_t len)
         .p2 = bytes[BYTE_P2],
         .bus = bytes[BYTE_BUS],
         .bus_driven = bytes[BYTE_BUS_DRIVEN],
+        .mode = bytes[BYTE_MODE],
     };
 }

@@ -1,7 +1,7 @@
 /*
  * The 24 bytes of a machine state in the C interface, and the second emulator's struct of it.
  *
- * The second emulator knows neither the bytes 20 to 23 nor a length: where these are wrong, a
+ * The second emulator knows neither the bytes 21 to 23 nor a length: where these are wrong, a
  * state that is outside its sizes stands for them.
  */
 #ifndef BYTES_H
@@ -35,8 +35,9 @@ enum state_byte {
     BYTE_P2,
     BYTE_BUS,
     BYTE_BUS_DRIVEN,
-    BYTE_RESERVED, /* and the three after it */
-    STATE_BYTES = BYTE_RESERVED + 4
+    BYTE_MODE,
+    BYTE_RESERVED, /* and the two after it */
+    STATE_BYTES = BYTE_RESERVED + 3
 };
 
 extern const char *const state_byte_names[STATE_BYTES];

@@ -11,13 +11,15 @@ const size_t program_sizes[3] = {1024, 2048, 4096};
 const size_t ram_sizes[3] = {64, 128, 256};
 
 /* Document 01's list, so that neither emulator decides which codes are tried. */
-bool is_defined(uint8_t code)
+bool is_defined(uint32_t set, uint8_t code)
 {
     static const uint8_t undefined[] = {
         0x01, 0x06, 0x0B, 0x22, 0x33, 0x38, 0x3B, 0x63, 0x66, 0x73, 0x82, 0x87, 0x8B,
         0x9B, 0xA2, 0xA6, 0xB7, 0xC0, 0xC1, 0xC2, 0xC3, 0xD6, 0xE0, 0xE1, 0xE2, 0xF3,
     };
 
+    if (set == SECOND_NEC && (code == 0x01 || code == 0x82)) /* HALT, STOP */
+        return true;
     return memchr(undefined, code, sizeof undefined) == NULL;
 }
 
@@ -76,6 +78,14 @@ static uint8_t random_counting(void)
     return one_in(2) ? SECOND_TIMER : one_in(2) ? SECOND_COUNTER : SECOND_STOPPED;
 }
 
+/* Half of the machines run; of the others half were just released, and come to an instruction. */
+static uint8_t random_mode(uint32_t set)
+{
+    if (set == SECOND_INTEL || one_in(2))
+        return SECOND_MODE_RUNS;
+    return one_in(2) ? SECOND_MODE_RELEASED : one_in(2) ? SECOND_MODE_HALTED : SECOND_MODE_STOPPED;
+}
+
 static uint8_t random_sp(void)
 {
     return (uint8_t)(one_in(2) ? below(8) : one_in(2) ? 0 : 7);
@@ -96,6 +106,7 @@ void random_state(struct chip *chip)
     state[BYTE_T] = one_in(2) ? 0xFF : random_byte();
     state[BYTE_DIVIDER] = random_divider();
     state[BYTE_COUNTING] = random_counting();
+    state[BYTE_MODE] = random_mode(chip->set);
     memset(state + BYTE_RESERVED, 0, STATE_BYTES - BYTE_RESERVED);
 }
 
@@ -196,7 +207,8 @@ void show_before(const struct chip *chip)
     uint16_t pc = pc_of(chip);
     uint8_t a = chip->state[BYTE_A];
 
-    printf("  program of %zu bytes\n", chip->program_len);
+    printf("  %s (%08X), program of %zu bytes\n", set_name(chip->set), (unsigned)chip->set,
+           chip->program_len);
     show_program(chip, "around PC", pc & 0xFFF0u, 32);
     show_program(chip, "at PC", pc, 1);
     show_program(chip, "at the next PC", next_pc(chip), 1);

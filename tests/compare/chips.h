@@ -10,8 +10,9 @@
 /* Room for lengths that are refused too, up to those that are good but for bit 16. */
 enum { PROGRAM_ROOM = 0x10000 + 4096, RAM_ROOM = 0x10000 + 256, STATE_ROOM = 64 };
 
-/* What a call is lent, as it is before the call. */
+/* What a call is lent, as it is before the call, and the set that it names. */
 struct chip {
+    uint32_t set;
     uint8_t program[PROGRAM_ROOM];
     size_t program_len;
     uint8_t ram[RAM_ROOM];
@@ -23,13 +24,13 @@ struct chip {
 extern const size_t program_sizes[3];
 extern const size_t ram_sizes[3];
 
-/* One of 230. */
-bool is_defined(uint8_t code);
+/* For Intel one of 230, for NEC one of 232. */
+bool is_defined(uint32_t set, uint8_t code);
 
 void random_sizes(struct chip *chip); /* one of the nine pairings, and 24 */
 void random_program(struct chip *chip);
 void random_ram(struct chip *chip);
-void random_state(struct chip *chip); /* a permitted one */
+void random_state(struct chip *chip); /* a permitted one of its set */
 
 /* Pins at random, now and then with RESET low and with one of bits 28 to 31. */
 uint32_t random_sample(void);

@@ -53,7 +53,8 @@ static void no_interrupt_calls(void)
 
 static void random_start(unsigned a, unsigned c)
 {
-    random_chip();
+    random_chip(sets[below(LENGTH(sets))]);
+    chip.state[BYTE_MODE] = SECOND_MODE_RUNS;
     random_pc();
     no_interrupt_calls();
     chip.state[BYTE_A] = (uint8_t)a;

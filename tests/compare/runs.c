@@ -1,7 +1,8 @@
 /*
  * Runs: mcs48_run against second_run over random programs and lists of samples. Compared are
  * the number, the totals, the state and RAM; and a run with the same run cut in pieces, and
- * with its steps one at a time. In run_rotates.c, strings that may stand for each other.
+ * with its steps one at a time. In run_halts.c, runs over HALT and STOP; in run_rotates.c,
+ * strings that may stand for each other.
  *
  * --count N: runs in each case.
  */
@@ -28,6 +29,7 @@ static struct lent lent_totals;
 
 static struct result proved;
 struct result second;
+static uint8_t mode_after;          /* second_run */
 static size_t pieces[PIECES_SHOWN]; /* the lengths of the lists of a run that is cut */
 static size_t pieces_len;
 
@@ -80,16 +82,18 @@ void check_run(void)
     uint64_t *sums = lend(&lent_totals, totals, totals_len * sizeof *totals);
 
     proved = second = (struct result){0};
-    proved.number = mcs48_run(lent.program.at, chip.program_len, lent.ram.at, chip.ram_len,
-                              lent.state.at, chip.state_len, list, samples_len, sums, totals_len);
+    proved.number =
+        mcs48_run(chip.set, lent.program.at, chip.program_len, lent.ram.at, chip.ram_len,
+                  lent.state.at, chip.state_len, list, samples_len, sums, totals_len);
     if (totals_len >= 2) {
         proved.samples = sums[0];
         proved.cycles = sums[1];
     }
     struct second_totals answer =
-        second_run(chip.program, chip.program_len, lent.second_ram, chip.ram_len,
+        second_run(chip.set, chip.program, chip.program_len, lent.second_ram, chip.ram_len,
                    &lent.second_state, samples, samples_len);
     second = (struct result){answer.number, answer.samples, answer.cycles};
+    mode_after = lent.second_state.mode;
 
     if (proved.number != second.number)
         differ("the number differs");
@@ -107,6 +111,7 @@ static void begin_parts(void)
     memcpy(part.program, chip.program, chip.program_len);
     memcpy(part.ram, chip.ram, chip.ram_len);
     memcpy(part.state, chip.state, chip.state_len);
+    part.set = chip.set;
     part.program_len = chip.program_len;
     part.ram_len = chip.ram_len;
     part.state_len = chip.state_len;
@@ -126,8 +131,8 @@ static void run_part(size_t len)
     lend_chip(&lent, &part);
     const uint32_t *list =
         lend(&lent_samples, samples + proved.samples, len * sizeof *samples);
-    proved.number = mcs48_run(lent.program.at, part.program_len, lent.ram.at, part.ram_len,
-                              lent.state.at, part.state_len, list, len, sums, 2);
+    proved.number = mcs48_run(part.set, lent.program.at, part.program_len, lent.ram.at,
+                              part.ram_len, lent.state.at, part.state_len, list, len, sums, 2);
     proved.samples += sums[0];
     proved.cycles += sums[1];
     take_back();
@@ -138,11 +143,11 @@ static void step_part(void)
     const uint32_t *pair = samples + proved.samples;
 
     lend_chip(&lent, &part);
-    uint64_t answer = mcs48_step(lent.program.at, part.program_len, lent.ram.at, part.ram_len,
-                                 lent.state.at, part.state_len, pair[0], pair[1]);
-    proved.number = answer & 0xFF;
-    proved.samples += answer >> 8 & 0xFF;
-    proved.cycles += answer >> 8 & 0xFF;
+    uint64_t answer = mcs48_step(part.set, lent.program.at, part.program_len, lent.ram.at,
+                                 part.ram_len, lent.state.at, part.state_len, pair[0], pair[1]);
+    proved.number = mcs48_number(answer);
+    proved.samples += mcs48_samples(answer);
+    proved.cycles += mcs48_cycles(answer);
     take_back();
 }
 
@@ -203,6 +208,13 @@ static void check_steps(void)
     check_parts(step_run);
 }
 
+void check_somehow(void)
+{
+    static void (*const manners[])(void) = {check_run, check_pieces, check_steps};
+
+    manners[below(LENGTH(manners))]();
+}
+
 /* Random runs. */
 
 static uint8_t defined_code(void)
@@ -211,7 +223,7 @@ static uint8_t defined_code(void)
 
     do {
         code = (uint8_t)random_word();
-    } while (!is_defined(code));
+    } while (!is_defined(chip.set, code));
     return code;
 }
 
@@ -224,6 +236,8 @@ static uint8_t staying_code(size_t program_len)
         code &= 0x7F; /* JMP and CALL to the lower four pages */
     if (code == 0xF5 && program_len < 4096)
         code = 0xE5; /* SEL MB0 for SEL MB1 */
+    if (chip.set == SECOND_NEC && one_in(16))
+        code = one_in(2) ? 0x01 : 0x82; /* HALT, STOP */
     return code;
 }
 
@@ -260,17 +274,18 @@ static void random_samples(size_t len)
     }
 }
 
-void random_chip(void)
+void random_chip(uint32_t set)
 {
+    chip.set = set;
     random_sizes(&chip);
     random_program(&chip);
     random_state(&chip);
     random_ram(&chip);
 }
 
-static void random_run(bool enduring, size_t len)
+static void random_run(uint32_t set, bool enduring, size_t len)
 {
-    random_chip();
+    random_chip(set);
     if (enduring)
         enduring_program();
     random_samples(len);
@@ -278,13 +293,58 @@ static void random_run(bool enduring, size_t len)
 
 /* What all the runs together have met. */
 
-enum met { RAN_OUT, ALL_USED, ONE_LEFT, NUMBER_4, NUMBER_5, NUMBER_6, STOOD, MEETINGS };
+enum met {
+    RAN_OUT,
+    ALL_USED,
+    ONE_LEFT,
+    NUMBER_4,
+    NUMBER_5,
+    NUMBER_6,
+    STOOD,
+    WAITED,
+    ONLY_WAITED,
+    LEFT_HALTED,
+    LEFT_STOPPED,
+    LEFT_RELEASED,
+    RELEASED_4,
+    RELEASED_5,
+    RELEASED_6,
+    MEETINGS
+};
 
 static const char *const meeting_names[MEETINGS] = {
-    "samples ran out", "none left", "one left", "4", "5", "6", "steps that stood before a refusal"};
+    "samples ran out",
+    "none left",
+    "one left",
+    "4",
+    "5",
+    "6",
+    "steps that stood before a refusal",
+    "waits",
+    "nothing but waits",
+    "left halted",
+    "left stopped",
+    "left just released",
+    "just released, refused by 4",
+    "by 5",
+    "by 6",
+};
 
 static uint64_t meetings[MEETINGS];
 static uint64_t longest;
+
+static void note_modes(void)
+{
+    bool released = mode_after == SECOND_MODE_RELEASED;
+
+    meetings[WAITED] += second.samples > second.cycles;
+    meetings[ONLY_WAITED] += second.samples > 0 && second.cycles == 0;
+    meetings[LEFT_HALTED] += mode_after == SECOND_MODE_HALTED;
+    meetings[LEFT_STOPPED] += mode_after == SECOND_MODE_STOPPED;
+    meetings[LEFT_RELEASED] += released;
+    if (released && second.number >= 4 && second.number <= 6)
+        meetings[RELEASED_4 + second.number - 4]++;
+}
 
 static void note(void)
 {
@@ -297,6 +357,7 @@ static void note(void)
         meetings[NUMBER_4 + second.number - 4]++;
     meetings[STOOD] += second.number != 0 && second.samples > 0;
     longest = second.samples > longest ? second.samples : longest;
+    note_modes();
 }
 
 /* Cases. */
@@ -306,19 +367,20 @@ struct manner {
     void (*check)(void);
 };
 
-static void run_case(const struct manner *manner, bool enduring, uint32_t least, uint32_t most)
+static void run_case(uint32_t set, const struct manner *manner, bool enduring, uint32_t least,
+                     uint32_t most)
 {
-    begin_case("%s, %s, %u to %u samples", manner->name,
+    begin_case("%s, %s, %s, %u to %u samples", set_name(set), manner->name,
                enduring ? "defined codes" : "any bytes", (unsigned)least, (unsigned)most);
     for (uint64_t i = 0; i < count() && agrees(); i++) {
-        random_run(enduring, least + below(most - least + 1));
+        random_run(set, enduring, least + below(most - least + 1));
         manner->check();
         note();
     }
     end_case();
 }
 
-static void run_cases(void)
+static void run_cases(uint32_t set)
 {
     static const struct manner manners[] = {
         {"whole runs", check_run}, {"runs in pieces", check_pieces}, {"single steps", check_steps}};
@@ -327,8 +389,8 @@ static void run_cases(void)
 
     for (size_t i = 0; i < LENGTH(manners); i++) {
         for (size_t j = 0; j < LENGTH(lengths); j++) {
-            run_case(&manners[i], false, lengths[j][0], lengths[j][1]);
-            run_case(&manners[i], true, lengths[j][0], lengths[j][1]);
+            run_case(set, &manners[i], false, lengths[j][0], lengths[j][1]);
+            run_case(set, &manners[i], true, lengths[j][0], lengths[j][1]);
         }
     }
 }
@@ -351,14 +413,26 @@ static void bad_ram_length(void)
 
 static void bad_state(void)
 {
-    static const enum state_byte limited[] = {BYTE_PC_HIGH, BYTE_F1,      BYTE_DIVIDER,
-                                              BYTE_COUNTING, BYTE_TF,     BYTE_LAST_T1,
-                                              BYTE_BUS_DRIVEN, BYTE_RESERVED};
+    static const enum state_byte limited[] = {BYTE_PC_HIGH,    BYTE_F1,   BYTE_DIVIDER,
+                                              BYTE_COUNTING,   BYTE_TF,   BYTE_LAST_T1,
+                                              BYTE_BUS_DRIVEN, BYTE_MODE, BYTE_RESERVED};
 
     if (one_in(4))
         chip.state[BYTE_PSW] &= 0xF7;
     else
         chip.state[limited[below(LENGTH(limited))]] = (uint8_t)(32 + below(224));
+}
+
+/* Halted, stopped or just released. */
+static void bad_mode_of_intel(void)
+{
+    chip.set = SECOND_INTEL;
+    chip.state[BYTE_MODE] = (uint8_t)(1 + below(3));
+}
+
+static void bad_set(void)
+{
+    chip.set = unknown_set();
 }
 
 static void bad_state_length(void)
@@ -371,20 +445,30 @@ static void bad_state_length(void)
 static void bad_in_two_ways(void)
 {
     static void (*const ways[])(void) = {bad_program_length, bad_ram_length, bad_state,
-                                         bad_state_length};
+                                         bad_state_length, bad_mode_of_intel};
 
     ways[below(LENGTH(ways))]();
     ways[below(LENGTH(ways))]();
 }
 
-static void refused_case(const char *name, void (*spoil)(void))
+/* 25 goes before all others. */
+static void bad_in_many_ways(void)
+{
+    bad_in_two_ways();
+    bad_set();
+}
+
+static void refused_case(const char *name, void (*spoil)(void), uint8_t least, uint8_t most)
 {
     begin_case("%s", name);
     for (uint64_t i = 0; i < count() && agrees(); i++) {
-        random_run(one_in(2), one_in(2) ? below(3) : below(SAMPLES_MOST));
+        random_run(sets[below(LENGTH(sets))], one_in(2),
+                   one_in(2) ? below(3) : below(SAMPLES_MOST));
         spoil();
         check_run();
-        if (second.number < 1 || second.number > 3 || second.samples != 0)
+        if (second.number < least || second.number > most)
+            differ("not that number");
+        if (second.samples != 0 || second.cycles != 0)
             differ("not refused before the first step");
     }
     end_case();
@@ -392,11 +476,14 @@ static void refused_case(const char *name, void (*spoil)(void))
 
 static void refused_cases(void)
 {
-    refused_case("program length not allowed", bad_program_length);
-    refused_case("RAM length not allowed", bad_ram_length);
-    refused_case("state outside its sizes", bad_state);
-    refused_case("state length not allowed", bad_state_length);
-    refused_case("two of these", bad_in_two_ways);
+    refused_case("program length not allowed", bad_program_length, 1, 1);
+    refused_case("RAM length not allowed", bad_ram_length, 2, 2);
+    refused_case("state outside its sizes", bad_state, 3, 3);
+    refused_case("state length not allowed", bad_state_length, 3, 3);
+    refused_case("Intel, and it doesn't run", bad_mode_of_intel, 3, 3);
+    refused_case("two of these", bad_in_two_ways, 1, 3);
+    refused_case("set neither Intel nor NEC", bad_set, 25, 25);
+    refused_case("such a set and two of these", bad_in_many_ways, 25, 25);
 }
 
 static void meeting_case(void)
@@ -420,8 +507,10 @@ int main(int argc, char **argv)
     new_rooms(&lent);
     lent_samples = new_room(sizeof samples);
     lent_totals = new_room(sizeof totals);
-    run_cases();
+    run_cases(SECOND_INTEL);
+    run_cases(SECOND_NEC);
     refused_cases();
+    halt_cases();
     rotate_cases();
     meeting_case();
     return finish();

@@ -21,11 +21,15 @@ extern struct lent_chip lent;
 extern struct result second; /* what second_run has answered */
 
 /* A chip at random, with a program of any bytes. */
-void random_chip(void);
+void random_chip(uint32_t set);
 
 /* Gives the run to both emulators and compares all that they answer and leave. */
 void check_run(void);
 
+/* The same, and then the run in pieces or step by step; lent has what is left in the end. */
+void check_somehow(void);
+
+void halt_cases(void);
 void rotate_cases(void);
 
 #endif

@@ -1,6 +1,6 @@
 /*
- * What the drivers share: the codes that jump on a condition, random numbers, the count of
- * cases, buffers that are lent with guards around them, printing.
+ * What the drivers share: the sets, the codes that jump on a condition, random numbers, the
+ * count of cases, buffers that are lent with guards around them, printing.
  */
 #define _DEFAULT_SOURCE /* MAP_ANONYMOUS */
 #include "shared.h"
@@ -11,6 +11,22 @@
 #include <stdlib.h>
 #include <string.h>
 #include <sys/mman.h>
+
+const uint32_t sets[2] = {SECOND_INTEL, SECOND_NEC};
+
+uint32_t unknown_set(void)
+{
+    static const uint32_t near[] = {2,          3,          4,         0xFF,       0x100,
+                                    0x101,      0x10000,    0x10001,   0x7FFFFFFF, 0x80000000,
+                                    0x80000001, 0xFFFFFFFE, 0xFFFFFFFF};
+
+    return one_in(4) ? 2 + below(UINT32_MAX - 1) : near[below(LENGTH(near))];
+}
+
+const char *set_name(uint32_t set)
+{
+    return set == SECOND_INTEL ? "Intel" : set == SECOND_NEC ? "NEC" : "unknown set";
+}
 
 /* The data sheets' codes, so that neither emulator decides which are tried. */
 bool is_conditional_jump(uint8_t code)
@@ -70,6 +86,7 @@ enum { DIFFERENCE = 1, UNABLE = 2 };
 static const struct driver *driver;
 static uint64_t seed = 48;
 static uint64_t calls;
+static bool only_first;
 static uint64_t place;
 static char case_name[80];
 static bool case_agrees;
@@ -92,13 +109,15 @@ static void fault(int signal_number)
     raise(signal_number);
 }
 
+static const char usage[] = "takes --seed N, --count N and --first";
+
 static uint64_t number_after(int argc, char **argv, int at)
 {
     char *end = NULL;
     uint64_t number = at + 1 < argc ? strtoull(argv[at + 1], &end, 10) : 0;
 
     if (end == NULL || *end != '\0')
-        give_up("takes --seed N and --count N");
+        give_up(usage);
     return number;
 }
 
@@ -108,13 +127,15 @@ void start(const struct driver *chosen, int argc, char **argv)
 
     driver = chosen;
     calls = driver->count;
-    for (int i = 1; i < argc; i += 2) {
+    for (int i = 1; i < argc; i++) {
         if (strcmp(argv[i], "--seed") == 0)
-            seed = number_after(argc, argv, i);
+            seed = number_after(argc, argv, i++);
         else if (strcmp(argv[i], "--count") == 0)
-            calls = number_after(argc, argv, i);
+            calls = number_after(argc, argv, i++);
+        else if (strcmp(argv[i], "--first") == 0)
+            only_first = true;
         else
-            give_up("takes --seed N and --count N");
+            give_up(usage);
     }
     for (size_t i = 0; i < LENGTH(faults); i++)
         signal(faults[i], fault);
@@ -165,6 +186,8 @@ void end_case(void)
         passed++;
     else
         failed++;
+    if (only_first && failed > 0)
+        exit(finish());
 }
 
 int finish(void)

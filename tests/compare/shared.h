@@ -1,6 +1,6 @@
 /*
- * What the drivers share: the codes that jump on a condition, random numbers, the count of
- * cases, buffers that are lent with guards around them, printing.
+ * What the drivers share: the sets, the codes that jump on a condition, random numbers, the
+ * count of cases, buffers that are lent with guards around them, printing.
  */
 #ifndef SHARED_H
 #define SHARED_H
@@ -10,6 +10,13 @@
 #include <stdbool.h>
 
 #define LENGTH(array) (sizeof(array) / sizeof(array)[0])
+
+extern const uint32_t sets[2]; /* Intel and NEC */
+
+/* Neither; by chance one that is Intel or NEC in its low 8, 16 or 31 bits, or in its high ones. */
+uint32_t unknown_set(void);
+
+const char *set_name(uint32_t set);
 
 /* One of 28: JBb, DJNZ and twelve more. */
 bool is_conditional_jump(uint8_t code);
@@ -23,8 +30,9 @@ void random_bytes(uint8_t *to, size_t len);
 
 /*
  * Cases. A case is many calls of one kind, and fails with the first call after which the two
- * emulators differ. The first failure of all prints its whole call. The exit status is 1 for
- * a difference, 2 if the driver can't work, and a signal if a call touches what isn't lent.
+ * emulators differ. The first failure of all prints its whole call; with --first it also ends
+ * the driver. The exit status is 1 for a difference, 2 if the driver can't work, and a signal if
+ * a call touches what isn't lent.
  */
 
 struct driver {

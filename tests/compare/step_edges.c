@@ -5,12 +5,13 @@
 #include "steps.h"
 
 /* Every code, from every size of program and RAM. */
-static void pc_case(uint16_t pc)
+static void pc_case(uint32_t set, uint16_t pc)
 {
-    begin_case("PC %03X", pc);
+    begin_case("%s, PC %03X", set_name(set), pc);
     for (unsigned i = 0; i < 256 * 9 && agrees(); i++) {
-        random_step(i);
+        random_step(set, i);
         quiet_pins();
+        wake();
         step.chip.program_len = program_sizes[i / 256 % 3];
         step.chip.ram_len = ram_sizes[i / 256 / 3];
         step.chip.state[BYTE_REQUEST] = 0;
@@ -21,13 +22,13 @@ static void pc_case(uint16_t pc)
     end_case();
 }
 
-static void pc_cases(void)
+static void pc_cases(uint32_t set)
 {
     static const uint16_t edges[] = {0x000, 0x0FE, 0x0FF, 0x100, 0x3FE, 0x3FF, 0x400, 0x7FE,
                                      0x7FF, 0x800, 0xAFF, 0xBFE, 0xBFF, 0xC00, 0xFFE, 0xFFF};
 
     for (size_t i = 0; i < LENGTH(edges); i++)
-        pc_case(edges[i]);
+        pc_case(set, edges[i]);
 }
 
 /* Codes that jump within a page or read a table in one, where two pages meet (02, item 3). */
@@ -46,11 +47,11 @@ static void even_odds(uint8_t code)
 }
 
 /* PAGE_STEPS tries take each page, place and pairing once. */
-static void page_step(uint64_t tries, uint8_t code)
+static void page_step(uint32_t set, uint64_t tries, uint8_t code)
 {
     static const uint8_t places[] = {0xFE, 0xFF, 0x00};
 
-    random_step(tries);
+    random_step(set, tries);
     set_pc(&step.chip, (uint16_t)(tries % 16 << 8 | places[tries / 16 % 3]));
     step.chip.program_len = program_sizes[tries / 48 % 3];
     step.chip.ram_len = ram_sizes[tries / 144 % 3];
@@ -94,13 +95,13 @@ static void check_page_ends(const struct page_ends *met, uint8_t code)
         differ("5 at 3FF of 1,024 is %s given", has_past_end ? "never" : "once");
 }
 
-static void page_case(uint8_t code)
+static void page_case(uint32_t set, uint8_t code)
 {
     struct page_ends met = {0};
 
-    begin_case("code %02X at the edges of pages", code);
+    begin_case("%s, code %02X at the edges of pages", set_name(set), code);
     for (uint64_t i = 0; (i < 4 * PAGE_STEPS || met.reached < count()) && agrees(); i++) {
-        page_step(i, code);
+        page_step(set, i, code);
         note_page_end(&met, check_step());
         if (i > 100 * (met.reached + 10))
             differ("too few steps come as far as the code");
@@ -109,34 +110,35 @@ static void page_case(uint8_t code)
     end_case();
 }
 
-static void page_cases(void)
+static void page_cases(uint32_t set)
 {
     for (unsigned code = 0; code < 256; code++) {
         if (is_conditional_jump((uint8_t)code))
-            page_case((uint8_t)code);
+            page_case(set, (uint8_t)code);
     }
-    page_case(0xA3); /* MOVP */
-    page_case(0xB3); /* JMPP */
-    page_case(0xE3); /* MOVP3 */
+    page_case(set, 0xA3); /* MOVP */
+    page_case(set, 0xB3); /* JMPP */
+    page_case(set, 0xE3); /* MOVP3 */
 }
 
 /* A step whose code every program has at PC, and that nothing forestalls but a timer request. */
-static void plain_step(uint64_t tries)
+static void plain_step(uint32_t set, uint64_t tries)
 {
-    random_step(tries);
+    random_step(set, tries);
     quiet_pins();
+    step.chip.state[BYTE_MODE] = SECOND_MODE_RUNS;
     set_pc(&step.chip, pc_of(&step.chip) % 1024);
     put_code(&step.chip, (uint8_t)tries);
 }
 
 /* Every code under all settings of the flags that decide about a timer request. */
-static void timer_case(uint8_t divider)
+static void timer_case(uint32_t set, uint8_t divider)
 {
     uint8_t *state = step.chip.state;
 
-    begin_case("timer at FF, divider %u", divider);
+    begin_case("%s, timer at FF, divider %u", set_name(set), divider);
     for (unsigned i = 0; i < 256 * 32 && agrees(); i++) {
-        plain_step(i);
+        plain_step(set, i);
         state[BYTE_T] = 0xFF;
         state[BYTE_COUNTING] = SECOND_TIMER;
         state[BYTE_DIVIDER] = divider;
@@ -150,19 +152,14 @@ static void timer_case(uint8_t divider)
     end_case();
 }
 
-static uint32_t with_pin(uint32_t sample, uint32_t pin, bool high)
-{
-    return high ? sample | pin : sample & ~pin;
-}
-
 /* Every code under all levels of T1 before, in the first and in the second cycle. */
-static void counter_case(uint8_t t)
+static void counter_case(uint32_t set, uint8_t t)
 {
     uint8_t *state = step.chip.state;
 
-    begin_case("counter at %02X", t);
+    begin_case("%s, counter at %02X", set_name(set), t);
     for (unsigned i = 0; i < 256 * 16 && agrees(); i++) {
-        plain_step(i);
+        plain_step(set, i);
         state[BYTE_T] = t;
         state[BYTE_COUNTING] = SECOND_COUNTER;
         state[BYTE_REQUEST] = 0;
@@ -175,14 +172,14 @@ static void counter_case(uint8_t t)
     end_case();
 }
 
-/* All settings of what decides between reset, the two calls and the instruction. */
-static void precedence_case(void)
+/* All settings of what decides between reset, the wait, the two calls and the instruction. */
+static void precedence_case(uint32_t set)
 {
     uint8_t *state = step.chip.state;
 
-    begin_case("reset and interrupts");
+    begin_case("%s, reset and interrupts", set_name(set));
     for (unsigned i = 0; i < 128 * 64 && agrees(); i++) {
-        random_step(i);
+        random_step(set, i);
         quiet_pins();
         step.first = with_pin(step.first, SECOND_PIN_INT, i & 1);
         step.first = with_pin(step.first, SECOND_PIN_RESET, i >> 1 & 1);
@@ -191,20 +188,21 @@ static void precedence_case(void)
         state[BYTE_REQUEST] = i >> 4 & 1;
         state[BYTE_IN_SERVICE] = i >> 5 & 1;
         state[BYTE_DBF] = i >> 6 & 1;
+        state[BYTE_MODE] = set == SECOND_NEC ? i >> 7 & 3 : SECOND_MODE_RUNS;
         check_step();
     }
     end_case();
 }
 
 /* CALL, RET and RETR, and by chance interrupt calls. */
-static void stack_case(unsigned sp)
+static void stack_case(uint32_t set, unsigned sp)
 {
     static const uint8_t codes[] = {0x14, 0x34, 0x54, 0x74, 0x94, 0xB4, 0xD4, 0xF4, 0x83, 0x93};
     uint8_t *psw = &step.chip.state[BYTE_PSW];
 
-    begin_case("stack at SP %u", sp);
+    begin_case("%s, stack at SP %u", set_name(set), sp);
     for (unsigned i = 0; i < 1000 && agrees(); i++) {
-        random_step(i);
+        random_step(set, i);
         *psw = (uint8_t)((*psw & 0xF8) | sp);
         put_code(&step.chip, codes[below(LENGTH(codes))]);
         check_step();
@@ -213,13 +211,14 @@ static void stack_case(unsigned sp)
 }
 
 /* An instruction of the accumulator: every A, operand, C and AC. */
-static void accumulator_case(uint8_t code, unsigned operands)
+static void accumulator_case(uint32_t set, uint8_t code, unsigned operands)
 {
     uint8_t *state = step.chip.state;
 
-    begin_case("code %02X, every A, operand, C and AC", code);
-    random_step(0);
+    begin_case("%s, code %02X, every A, operand, C and AC", set_name(set), code);
+    random_step(set, 0);
     quiet_pins();
+    wake();
     state[BYTE_REQUEST] = 0;
     set_pc(&step.chip, 0x200);
     put_code(&step.chip, code);
@@ -233,28 +232,30 @@ static void accumulator_case(uint8_t code, unsigned operands)
     end_case();
 }
 
-static void accumulator_cases(void)
+/* NEC's sums are tried with the other codes: all of them twice would take too long. */
+void accumulator_cases(void)
 {
     /* DEC, INC, CLR, CPL, SWAP, DA, RRC, RR, RL, RLC */
     static const uint8_t alone[] = {0x07, 0x17, 0x27, 0x37, 0x47, 0x57, 0x67, 0x77, 0xE7, 0xF7};
 
-    accumulator_case(0x03, 256); /* ADD A,#data */
-    accumulator_case(0x13, 256); /* ADDC A,#data */
-    for (size_t i = 0; i < LENGTH(alone); i++)
-        accumulator_case(alone[i], 1);
+    accumulator_case(SECOND_INTEL, 0x03, 256); /* ADD A,#data */
+    accumulator_case(SECOND_INTEL, 0x13, 256); /* ADDC A,#data */
+    for (size_t i = 0; i < LENGTH(alone); i++) {
+        accumulator_case(SECOND_INTEL, alone[i], 1);
+        accumulator_case(SECOND_NEC, alone[i], 1);
+    }
 }
 
-void edge_cases(void)
+void edge_cases(uint32_t set)
 {
-    pc_cases();
-    page_cases();
-    timer_case(31);
-    timer_case(30);
-    timer_case(29);
-    counter_case(0xFF);
-    counter_case(0xFE);
-    precedence_case();
+    pc_cases(set);
+    page_cases(set);
+    timer_case(set, 31);
+    timer_case(set, 30);
+    timer_case(set, 29);
+    counter_case(set, 0xFF);
+    counter_case(set, 0xFE);
+    precedence_case(set);
     for (unsigned sp = 0; sp < 8; sp++)
-        stack_case(sp);
-    accumulator_cases();
+        stack_case(set, sp);
 }

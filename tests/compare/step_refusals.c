@@ -8,7 +8,7 @@
 
 static void refusable_step(uint64_t tries)
 {
-    random_step(tries);
+    random_step(sets[below(LENGTH(sets))], tries);
     if (one_in(4))
         step.second |= SECOND_PIN_NONE;
 }
@@ -38,6 +38,9 @@ static void spoil(enum state_byte field)
     case BYTE_COUNTING:
         *byte = above(2);
         break;
+    case BYTE_MODE:
+        *byte = above(step.chip.set == SECOND_NEC ? 3 : 0);
+        break;
     default:
         *byte = above(field < BYTE_RESERVED ? 1 : 0);
         break;
@@ -57,6 +60,20 @@ static void spoiled_case(enum state_byte field)
     for (uint64_t i = 0; i < count() / 10 && agrees(); i++) {
         refusable_step(i);
         spoil(field);
+        if (check_step().number != SECOND_STATE_SIZES)
+            differ("not 3");
+    }
+    end_case();
+}
+
+/* Halted, stopped or just released, which only NEC's machines can be. */
+static void intel_mode_case(uint8_t mode)
+{
+    begin_case("Intel with mode %u", mode);
+    for (uint64_t i = 0; i < count() / 10 && agrees(); i++) {
+        refusable_step(i);
+        step.chip.set = SECOND_INTEL;
+        step.chip.state[BYTE_MODE] = mode;
         if (check_step().number != SECOND_STATE_SIZES)
             differ("not 3");
     }
@@ -95,6 +112,8 @@ static void state_cases(void)
         if (has_limit(field))
             spoiled_case(field);
     }
+    for (uint8_t mode = SECOND_MODE_HALTED; mode <= SECOND_MODE_RELEASED; mode++)
+        intel_mode_case(mode);
     any_state_case();
     for (size_t i = 0; i < LENGTH(lengths); i++)
         state_length_case(lengths[i]);
@@ -136,22 +155,43 @@ static void ram_length_case(size_t len)
     end_case();
 }
 
+/* A set that is neither Intel nor NEC, before every other reason. */
+static void unknown_set_case(void)
+{
+    begin_case("sets that are neither");
+    for (uint64_t i = 0; i < count() && agrees(); i++) {
+        refusable_step(i);
+        step.chip.set = unknown_set();
+        if (one_in(4))
+            step.chip.program_len = lengths[below(LENGTH(lengths))];
+        if (one_in(4))
+            step.chip.ram_len = lengths[below(LENGTH(lengths))];
+        if (one_in(4))
+            spoil(BYTE_TF);
+        if (one_in(4))
+            step.chip.state_len = below(STATE_ROOM + 1);
+        if (check_step().number != SECOND_SET_UNKNOWN)
+            differ("not 25");
+    }
+    end_case();
+}
+
 /* Lengths that are good in their low 32 bits. To write to such a program or RAM is a fault. */
-static void huge_case(void)
+static void huge_case(uint32_t set)
 {
     const size_t huge = (size_t)1 << 32;
     const uint8_t *far = zeros(huge + 4096);
     const struct chip *chip = &step.chip;
 
-    begin_case("lengths above 32 bits");
-    random_step(0);
+    begin_case("%s, lengths above 32 bits", set_name(set));
+    random_step(set, 0);
     quiet_pins();
     lend_chip(&lent, chip);
     for (size_t i = 0; i < 3; i++) {
-        if (mcs48_step(far, huge + program_sizes[i], lent.ram.at, chip->ram_len, lent.state.at,
+        if (mcs48_step(set, far, huge + program_sizes[i], lent.ram.at, chip->ram_len, lent.state.at,
                        chip->state_len, step.first, step.second) != SECOND_PROGRAM_LENGTH)
             differ("a program of 4 GiB and %zu bytes is not refused", program_sizes[i]);
-        if (mcs48_step(lent.program.at, chip->program_len, (uint8_t *)(uintptr_t)far,
+        if (mcs48_step(set, lent.program.at, chip->program_len, (uint8_t *)(uintptr_t)far,
                        huge + ram_sizes[i], lent.state.at, chip->state_len, step.first,
                        step.second) != SECOND_RAM_LENGTH)
             differ("a RAM of 4 GiB and %zu bytes is not refused", ram_sizes[i]);
@@ -169,5 +209,7 @@ void refusal_cases(void)
     program_length_case(0x10000 + 4096);
     for (size_t i = 0; i < LENGTH(lengths); i++)
         ram_length_case(lengths[i]);
-    huge_case();
+    unknown_set_case();
+    huge_case(SECOND_INTEL);
+    huge_case(SECOND_NEC);
 }

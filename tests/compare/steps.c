@@ -1,9 +1,10 @@
 /*
- * Steps: mcs48_step against second_step, call by call. Compared are the packed answer, the
- * 24 bytes of the state, all of RAM, and that a refused call has touched nothing.
+ * Steps: mcs48_step against second_step, call by call. Compared are the packed answer and what
+ * the header's functions take out of it, the 24 bytes of the state, all of RAM, and that a
+ * refused call has touched nothing.
  *
- * --count N: how often each code is carried out, and each that depends on a page as often again
- * at the end of one. A tenth of it is tried of each refusal.
+ * --count N: how often each code of each set is carried out, and each that depends on a page as
+ * often again at the end of one. A tenth of it is tried of each refusal.
  */
 #include "steps.h"
 
@@ -20,10 +21,12 @@ static uint64_t second_answer;
 
 static void show_answer(const char *label, uint64_t answer)
 {
-    printf("  %s: number %u, cycles %u, event %u, address %02X, data %02X, all %010llX\n", label,
-           (unsigned)(answer & 0xFF), (unsigned)(answer >> 8 & 0xFF),
-           (unsigned)(answer >> 16 & 0xFF), (unsigned)(answer >> 24 & 0xFF),
-           (unsigned)(answer >> 32 & 0xFF), (unsigned long long)answer);
+    printf("  %s: number %u, cycles %u, samples %u, event %u, address %02X, data %02X, "
+           "all %016llX\n",
+           label, (unsigned)(answer & 0xFF), (unsigned)(answer >> 8 & 0xFF),
+           (unsigned)(answer >> 48 & 0xFF), (unsigned)(answer >> 16 & 0xFF),
+           (unsigned)(answer >> 24 & 0xFF), (unsigned)(answer >> 32 & 0xFF),
+           (unsigned long long)answer);
 }
 
 static void show(void)
@@ -49,8 +52,24 @@ enum met {
     TABLE_PAST_END,
     NUMBER_1,
     NUMBER_6 = NUMBER_1 + 5,
+    NUMBER_25,
     MOVX_READ,
     ANLD = MOVX_READ + 5,
+    RESET_HALTED,
+    RESET_STOPPED,
+    RESET_RELEASED,
+    HALTED,
+    STOPPED,
+    RELEASED_FROM_HALT,
+    RELEASED_FROM_STOP,
+    EXTERNAL_HELD_BACK,
+    TIMER_HELD_BACK,
+    HALT_ENTERED,
+    STOP_ENTERED,
+    HALT_NOT_ENTERED,
+    STOP_NOT_ENTERED,
+    RELEASED_NUMBER_4,
+    RELEASED_NUMBER_6 = RELEASED_NUMBER_4 + 2,
     MEETINGS
 };
 
@@ -70,32 +89,62 @@ static const char *const meeting_names[MEETINGS] = {
     "4",
     "5",
     "6",
+    "25",
     "MOVX read",
     "MOVX write",
     "MOVD A,Pp",
     "MOVD Pp,A",
     "ORLD",
     "ANLD",
+    "reset of a halted machine",
+    "of a stopped one",
+    "of one just released",
+    "wait of a halted machine",
+    "of a stopped one",
+    "release from a halt",
+    "from a stop",
+    "external call held back by a release",
+    "timer call held back",
+    "HALT entered",
+    "STOP entered",
+    "HALT not entered",
+    "STOP not entered",
+    "just released, number 4",
+    "5",
+    "6",
 };
 
 static uint64_t meetings[MEETINGS];
 
-/* What a step does by document 01 unless it is refused. */
-enum act { RESET, EXTERNAL, TIMER, INSTRUCTION };
+/* What a step does by document 01, and by 02's item 2, unless it is refused. */
+enum act { RESET, WAIT, EXTERNAL, TIMER, INSTRUCTION };
+
+static bool is_high(uint32_t pin)
+{
+    return (step.first & pin) != 0;
+}
+
+/* Which of the two calls would come if none were in service and it were not just released. */
+static enum act call_of_step(void)
+{
+    const uint8_t *state = step.chip.state;
+
+    if (state[BYTE_EXTERNAL_ENABLED] && !is_high(SECOND_PIN_INT))
+        return EXTERNAL;
+    return state[BYTE_TIMER_ENABLED] && state[BYTE_REQUEST] ? TIMER : INSTRUCTION;
+}
 
 static enum act act_of_step(void)
 {
     const uint8_t *state = step.chip.state;
 
-    if (!(step.first & SECOND_PIN_RESET))
+    if (!is_high(SECOND_PIN_RESET))
         return RESET;
-    if (state[BYTE_IN_SERVICE])
+    if (state[BYTE_MODE] == SECOND_MODE_HALTED || state[BYTE_MODE] == SECOND_MODE_STOPPED)
+        return WAIT;
+    if (state[BYTE_IN_SERVICE] || state[BYTE_MODE] == SECOND_MODE_RELEASED)
         return INSTRUCTION;
-    if (state[BYTE_EXTERNAL_ENABLED] && !(step.first & SECOND_PIN_INT))
-        return EXTERNAL;
-    if (state[BYTE_TIMER_ENABLED] && state[BYTE_REQUEST])
-        return TIMER;
-    return INSTRUCTION;
+    return call_of_step();
 }
 
 static void note_act(enum act act)
@@ -129,9 +178,33 @@ static uint8_t code_of_step(void)
     return step.chip.program[pc_of(&step.chip)];
 }
 
-static bool is_high(uint32_t pin)
+static void note_mode(enum act act)
 {
-    return (step.first & pin) != 0;
+    uint8_t mode = step.chip.state[BYTE_MODE];
+    bool halted = mode == SECOND_MODE_HALTED;
+    bool released = mode == SECOND_MODE_RELEASED;
+    bool low = !is_high(SECOND_PIN_INT);
+    bool held_back = act == INSTRUCTION && released && !step.chip.state[BYTE_IN_SERVICE];
+
+    if (act == RESET && mode != SECOND_MODE_RUNS)
+        meetings[halted ? RESET_HALTED : released ? RESET_RELEASED : RESET_STOPPED]++;
+    if (act == WAIT && low)
+        meetings[halted ? RELEASED_FROM_HALT : RELEASED_FROM_STOP]++;
+    if (act == WAIT && !low)
+        meetings[halted ? HALTED : STOPPED]++;
+    meetings[EXTERNAL_HELD_BACK] += held_back && call_of_step() == EXTERNAL;
+    meetings[TIMER_HELD_BACK] += held_back && call_of_step() == TIMER;
+}
+
+/* An accepted instruction. */
+static void note_halt(void)
+{
+    bool low = !is_high(SECOND_PIN_INT);
+
+    if (code_of_step() == 0x01)
+        meetings[low ? HALT_NOT_ENTERED : HALT_ENTERED]++;
+    if (code_of_step() == 0x82)
+        meetings[low ? STOP_NOT_ENTERED : STOP_ENTERED]++;
 }
 
 bool jump_taken(void)
@@ -188,8 +261,13 @@ static void note_past_end(void)
 
 static void note_refusal(uint8_t number)
 {
+    bool released = step.chip.state[BYTE_MODE] == SECOND_MODE_RELEASED;
+
     if (number <= SECOND_SAMPLE_BITS)
         meetings[NUMBER_1 + number - 1]++;
+    meetings[NUMBER_25] += number == SECOND_SET_UNKNOWN;
+    if (released && number >= SECOND_UNDEFINED_CODE && number <= SECOND_SAMPLE_BITS)
+        meetings[RELEASED_NUMBER_4 + number - SECOND_UNDEFINED_CODE]++;
     if (number == SECOND_PAST_END)
         note_past_end();
 }
@@ -201,8 +279,11 @@ static void note(struct second_outcome outcome)
         return;
     }
     note_act(act_of_step());
-    if (act_of_step() == INSTRUCTION)
+    note_mode(act_of_step());
+    if (act_of_step() == INSTRUCTION) {
         note_jump();
+        note_halt();
+    }
     if (outcome.cycles == 2)
         note_overflow();
     if (outcome.event != 0 && outcome.event <= SECOND_ANLD)
@@ -225,10 +306,11 @@ static void meeting_case(void)
 
 /* One step of both. */
 
-void random_step(uint64_t tries)
+void random_step(uint32_t set, uint64_t tries)
 {
     if (tries % 64 == 0)
         random_program(&step.chip);
+    step.chip.set = set;
     random_sizes(&step.chip);
     random_state(&step.chip);
     random_ram(&step.chip);
@@ -242,10 +324,32 @@ void quiet_pins(void)
     step.second = (step.second & SECOND_PIN_IDLE) | SECOND_PIN_RESET | SECOND_PIN_INT;
 }
 
+uint32_t with_pin(uint32_t sample, uint32_t pin, bool high)
+{
+    return high ? sample | pin : sample & ~pin;
+}
+
+void wake(void)
+{
+    uint8_t *mode = &step.chip.state[BYTE_MODE];
+
+    if (*mode != SECOND_MODE_RELEASED)
+        *mode = SECOND_MODE_RUNS;
+}
+
 static uint64_t packed(struct second_outcome outcome)
 {
     return outcome.number | (uint64_t)outcome.cycles << 8 | (uint64_t)outcome.event << 16 |
-           (uint64_t)outcome.address << 24 | (uint64_t)outcome.data << 32;
+           (uint64_t)outcome.address << 24 | (uint64_t)outcome.data << 32 |
+           (uint64_t)outcome.samples << 48;
+}
+
+/* By the header's functions. */
+static bool is_taken_apart(uint64_t answer, struct second_outcome outcome)
+{
+    return mcs48_number(answer) == outcome.number && mcs48_cycles(answer) == outcome.cycles &&
+           mcs48_event(answer) == outcome.event && mcs48_event_address(answer) == outcome.address &&
+           mcs48_event_data(answer) == outcome.data && mcs48_samples(answer) == outcome.samples;
 }
 
 /* Against what was lent, not against the second emulator, which could err the same way. */
@@ -263,15 +367,18 @@ struct second_outcome check_step(void)
 
     lend_chip(&lent, chip);
     proved_answer = second_answer = 0;
-    proved_answer = mcs48_step(lent.program.at, chip->program_len, lent.ram.at, chip->ram_len,
-                               lent.state.at, chip->state_len, step.first, step.second);
+    proved_answer =
+        mcs48_step(chip->set, lent.program.at, chip->program_len, lent.ram.at, chip->ram_len,
+                   lent.state.at, chip->state_len, step.first, step.second);
     struct second_outcome outcome =
-        second_step(chip->program, chip->program_len, lent.second_ram, chip->ram_len,
+        second_step(chip->set, chip->program, chip->program_len, lent.second_ram, chip->ram_len,
                     &lent.second_state, step.first, step.second);
     second_answer = packed(outcome);
 
     if (proved_answer != second_answer)
         differ("the answer differs");
+    if (!is_taken_apart(proved_answer, outcome))
+        differ("the header's functions take the answer apart differently");
     if ((proved_answer & 0xFF) != 0)
         refused_touches_nothing();
     compare_chips(&lent, chip);
@@ -287,15 +394,27 @@ bool reached(struct second_outcome outcome)
            (outcome.number == SECOND_ACCEPTED || outcome.number == SECOND_UNDEFINED_CODE);
 }
 
-static void code_case(uint8_t code)
+/* By the document's list, which neither emulator has been asked for. */
+static void check_defined(struct second_outcome outcome, uint8_t code)
+{
+    if ((outcome.number == SECOND_ACCEPTED) != is_defined(step.chip.set, code))
+        differ("%s", is_defined(step.chip.set, code) ? "refused by 4" : "accepted");
+}
+
+static void code_case(uint32_t set, uint8_t code)
 {
     uint64_t times = 0;
 
-    begin_case("%s code %02X", is_defined(code) ? "defined" : "undefined", code);
+    begin_case("%s, %s code %02X", set_name(set), is_defined(set, code) ? "defined" : "undefined",
+               code);
     for (uint64_t tries = 0; times < count() && agrees(); tries++) {
-        random_step(tries);
+        random_step(set, tries);
         put_code(&step.chip, code);
-        times += reached(check_step());
+        struct second_outcome outcome = check_step();
+        if (reached(outcome)) {
+            check_defined(outcome, code);
+            times++;
+        }
         if (tries > 100 * (times + 10))
             differ("too few steps come as far as the code");
     }
@@ -308,9 +427,13 @@ int main(int argc, char **argv)
 
     start(&driver, argc, argv);
     new_rooms(&lent);
-    for (unsigned code = 0; code < 256; code++)
-        code_case((uint8_t)code);
-    edge_cases();
+    for (size_t i = 0; i < LENGTH(sets); i++) {
+        for (unsigned code = 0; code < 256; code++)
+            code_case(sets[i], (uint8_t)code);
+        edge_cases(sets[i]);
+    }
+    accumulator_cases();
+    halt_cases();
     refusal_cases();
     meeting_case();
     return finish();

@@ -1,7 +1,8 @@
 /*
  * Texts: mcs48_read and mcs48_reread against second_read and second_write, mcs48_list_line against
  * second_line, listings made line by line against second_listing, mcs48_power_up against
- * second_power_up.
+ * second_power_up; and what the header's functions take out of the answers. All that names a set
+ * is called for Intel and for NEC.
  *
  * --count N: random programs, beside those of the lengths at the edges.
  */
@@ -14,10 +15,11 @@
 enum { PROGRAM_MOST = 4096, PROGRAM_ROOM = PROGRAM_MOST + 1, LINE_ROOM = 64 };
 
 /* The proved reader, and the proved writer on what it gives (crates/reread): as mcs48_read answers. */
-uint64_t mcs48_reread(const uint8_t *program, size_t program_len, size_t address);
+uint64_t mcs48_reread(uint32_t set, const uint8_t *program, size_t program_len, size_t address);
 
 /* The call under way. Power-up takes the line's buffer for its state. */
 
+static uint32_t set;
 static uint8_t program[PROGRAM_ROOM];
 static size_t program_len;
 static size_t address;
@@ -34,7 +36,8 @@ static void show(void)
 {
     size_t from = address < 8 ? 0 : address - 8;
 
-    printf("  program of %zu bytes, address %zX, from %zX:", program_len, address, from);
+    printf("  %s (%08X), program of %zu bytes, address %zX, from %zX:", set_name(set),
+           (unsigned)set, program_len, address, from);
     for (size_t i = from; i < program_len && i < from + 24; i++)
         printf(" %02X", program[i]);
     printf("\n  line of %zu bytes\n", line_len);
@@ -47,50 +50,68 @@ static void show(void)
 
 /* The reader, and the writer after it. */
 
-static uint64_t second_read_and_written(void)
+static struct second_written second_read_and_written(void)
 {
-    struct second_reading reading = second_read(program, program_len, address);
+    struct second_reading reading = second_read(set, program, program_len, address);
 
     if (reading.number != SECOND_ACCEPTED)
-        return reading.number;
-    struct second_written written = second_write(&reading.instruction);
-    if (written.number != SECOND_ACCEPTED)
-        return written.number;
-    return (uint64_t)written.length << 8 | (uint64_t)written.bytes[0] << 16 |
-           (uint64_t)written.bytes[1] << 24;
+        return (struct second_written){.number = reading.number};
+    return second_write(set, &reading.instruction);
 }
 
-static void check_read(void)
+static bool is_reading(uint64_t answer, struct second_written written)
 {
+    return mcs48_number(answer) == written.number && mcs48_read_length(answer) == written.length &&
+           mcs48_first_byte(answer) == written.bytes[0] &&
+           mcs48_second_byte(answer) == written.bytes[1];
+}
+
+static struct second_written check_read(void)
+{
+    struct second_written written = second_read_and_written();
+
     line_len = 0;
-    second_answer = second_read_and_written();
-    proved_answer = mcs48_read(lent_program.at, program_len, address);
+    second_answer = written.number | (uint64_t)written.length << 8 |
+                    (uint64_t)written.bytes[0] << 16 | (uint64_t)written.bytes[1] << 24;
+    proved_answer = mcs48_read(set, lent_program.at, program_len, address);
     if (proved_answer != second_answer)
         differ("what is read differs");
-    proved_answer = mcs48_reread(lent_program.at, program_len, address);
+    if (!is_reading(proved_answer, written))
+        differ("the header's functions take what is read apart differently");
+    proved_answer = mcs48_reread(set, lent_program.at, program_len, address);
     if (proved_answer != second_answer)
         differ("what is read and written again differs");
+    return written;
 }
 
 /* Lines. */
 
+static bool is_line(uint64_t answer, struct second_line listed)
+{
+    return mcs48_number(answer) == listed.number && mcs48_line_length(answer) == listed.written &&
+           mcs48_line_size(answer) == listed.addresses;
+}
+
 /* An accepted line changes nothing past its LF, a refused one nothing at all. */
-static void check_line(size_t len)
+static struct second_line check_line(size_t len)
 {
     line_len = len;
     lend(&lent_line, line, line_len);
     memcpy(second_text, line, line_len);
 
     struct second_line listed =
-        second_line(program, program_len, address, second_text, line_len);
+        second_line(set, program, program_len, address, second_text, line_len);
     second_answer =
         listed.number | (uint64_t)listed.written << 8 | (uint64_t)listed.addresses << 24;
     proved_answer =
-        mcs48_list_line(lent_program.at, program_len, address, lent_line.at, line_len);
+        mcs48_list_line(set, lent_program.at, program_len, address, lent_line.at, line_len);
 
     if (proved_answer != second_answer)
         differ("the answer to a line differs");
+    if (!is_line(proved_answer, listed))
+        differ("the header's functions take the answer to a line apart differently");
     came_back(&lent_line, "the line", second_text);
+    return listed;
 }
 
 static void check_lines(void)
@@ -101,7 +122,7 @@ static void check_lines(void)
         check_line(lengths[i]);
 }
 
-/* Whole listings, as a program would make them of mcs48_list_line. */
+/* Whole listings, as the list program, which stays Intel, would make them of mcs48_list_line. */
 
 enum { TEXT_ROOM = SECOND_LINE_SIZE * PROGRAM_MOST };
 
@@ -109,15 +130,17 @@ static size_t proved_listing(uint8_t *text)
 {
     size_t used = 0;
 
-    for (address = 0; address < program_len; address += proved_answer >> 24 & 0xFFFF) {
+    set = SECOND_INTEL;
+    for (address = 0; address < program_len; address += mcs48_line_size(proved_answer)) {
         line_len = SECOND_LINE_SIZE;
         lend(&lent_line, line, line_len);
         proved_answer =
-            mcs48_list_line(lent_program.at, program_len, address, lent_line.at, line_len);
-        if ((proved_answer & 0xFF) != 0)
-            return (size_t)sprintf((char *)text, "refused %u\n", (unsigned)(proved_answer & 0xFF));
-        size_t written = proved_answer >> 8 & 0xFFFF;
-        if (written > line_len || proved_answer >> 24 == 0) {
+            mcs48_list_line(set, lent_program.at, program_len, address, lent_line.at, line_len);
+        if (mcs48_number(proved_answer) != 0)
+            return (size_t)sprintf((char *)text, "refused %u\n",
+                                   (unsigned)mcs48_number(proved_answer));
+        size_t written = mcs48_line_length(proved_answer);
+        if (written > line_len || mcs48_line_size(proved_answer) == 0) {
             differ("a line that is too long, or leads nowhere");
             return 0;
         }
@@ -148,8 +171,11 @@ static void lend_program(void)
 
 static void check_address(void)
 {
-    check_read();
-    check_lines();
+    for (size_t i = 0; i < LENGTH(sets); i++) {
+        set = sets[i];
+        check_read();
+        check_lines();
+    }
 }
 
 /* Addresses past the end too, and some that are good in their low bits. */
@@ -229,8 +255,11 @@ static void pair_case(size_t at, size_t len)
         program[next] = (uint8_t)pair;
         lend_program();
         address = at;
-        check_read();
-        check_line(SECOND_LINE_SIZE);
+        for (size_t i = 0; i < LENGTH(sets); i++) {
+            set = sets[i];
+            check_read();
+            check_line(SECOND_LINE_SIZE);
+        }
     }
     end_case();
 }
@@ -285,6 +314,74 @@ static void page_end_cases(void)
     }
 }
 
+/* HALT and STOP are NEC's: for Intel they are refused by 4, and DB in the listing. */
+
+struct nec_code {
+    uint8_t code;
+    const char *text;
+    const char *intel_text;
+};
+
+static void check_text(const char *text)
+{
+    struct second_line listed = check_line(SECOND_LINE_SIZE);
+    char expected[SECOND_LINE_SIZE];
+    int len = snprintf(expected, sizeof expected, "%03zX  %02X     %s\n", address, program[address],
+                       text);
+
+    if (listed.written != (size_t)len || memcmp(lent_line.at, expected, listed.written) != 0)
+        differ("not %s", text);
+}
+
+static void nec_code_case(const struct nec_code *nec)
+{
+    begin_case("code %02X everywhere", nec->code);
+    random_bytes(program, sizeof program);
+    program_len = PROGRAM_MOST;
+    for (address = 0; address < program_len && agrees(); address++) {
+        program[address] = nec->code;
+        lend_program();
+        set = SECOND_NEC;
+        if (check_read().length != 1)
+            differ("not of one byte");
+        check_text(nec->text);
+        set = SECOND_INTEL;
+        if (check_read().number != SECOND_UNDEFINED_CODE)
+            differ("not 4");
+        check_text(nec->intel_text);
+    }
+    end_case();
+}
+
+static void nec_code_cases(void)
+{
+    static const struct nec_code halt = {0x01, "HALT", "DB 01H"};
+    static const struct nec_code stop = {0x82, "STOP", "DB 82H"};
+
+    nec_code_case(&halt);
+    nec_code_case(&stop);
+}
+
+/* A set that is neither, before every other reason: any program, address and line. */
+static void unknown_set_case(void)
+{
+    begin_case("sets that are neither");
+    for (unsigned i = 0; i < 10000 && agrees(); i++) {
+        if (i % 64 == 0)
+            random_bytes(program, sizeof program);
+        program_len = one_in(8) ? PROGRAM_ROOM : below(64);
+        lend_program();
+        set = unknown_set();
+        address = below(80);
+        if (check_read().number != SECOND_SET_UNKNOWN)
+            differ("25 is not read");
+        if (check_line(below(LINE_ROOM + 1)).number != SECOND_SET_UNKNOWN)
+            differ("25 is not the answer to a line");
+        came_back(&lent_program, "the program", program);
+    }
+    end_case();
+}
+
 /* Power-up. */
 
 static void power_up_case(size_t len)
@@ -325,6 +422,8 @@ int main(int argc, char **argv)
     length_cases();
     random_case();
     pair_cases();
+    nec_code_cases();
+    unknown_set_case();
     power_up_cases();
     return finish();
 }

@@ -1,11 +1,11 @@
 /*
  * Tests of the second emulator: the sixteen bench cases of document 01, then the
- * sentences of document 01, of item 3 of document 02 and of our readings that are easily
- * misread.
+ * sentences of document 01, of items 2 and 3 of document 02 and of our readings that are
+ * easily misread.
  *
- * Written from document 01 (the scope), item 3 of document 02 and our readings of both
- * alone, without a look at the Rattle sources; codes and spellings after data sheets 001
- * and 002.
+ * Written from document 01 (the scope), items 2 and 3 of document 02 and our readings of
+ * them alone, without a look at the Rattle sources; codes and spellings after data sheets
+ * 001 and 002, those of HALT and STOP after 000.
  *
  * A failed test prints what was expected and got. The last line is `N passed, M failed`,
  * and the exit status is 0 exactly if M is 0.
@@ -60,7 +60,7 @@ static void check_bytes(const char *name, const uint8_t *expected, const uint8_t
     }
 }
 
-enum { FIELDS = 19 };
+enum { FIELDS = 20 };
 
 static const char *const field_names[FIELDS] = {
     "A",
@@ -82,6 +82,7 @@ static const char *const field_names[FIELDS] = {
     "P2",
     "BUS",
     "BUS driven",
+    "mode",
 };
 
 static void state_fields(const struct second_state *s, unsigned values[FIELDS])
@@ -106,6 +107,7 @@ static void state_fields(const struct second_state *s, unsigned values[FIELDS])
         s->p2,
         s->bus,
         s->bus_driven,
+        s->mode,
     };
 
     memcpy(values, fields, sizeof fields);
@@ -134,16 +136,17 @@ static void check_outcome(const char *name, struct second_outcome expected,
                           struct second_outcome got)
 {
     if (expected.number == got.number && expected.cycles == got.cycles &&
-        expected.event == got.event && expected.address == got.address &&
-        expected.data == got.data) {
+        expected.samples == got.samples && expected.event == got.event &&
+        expected.address == got.address && expected.data == got.data) {
         passed++;
         return;
     }
     failed++;
-    printf("%s: outcome: expected number %u cycles %u event %u address %02X data %02X, "
-           "got number %u cycles %u event %u address %02X data %02X\n",
-           name, expected.number, expected.cycles, expected.event, expected.address, expected.data,
-           got.number, got.cycles, got.event, got.address, got.data);
+    printf("%s: outcome: expected number %u cycles %u samples %u event %u address %02X data %02X, "
+           "got number %u cycles %u samples %u event %u address %02X data %02X\n",
+           name, expected.number, expected.cycles, expected.samples, expected.event,
+           expected.address, expected.data, got.number, got.cycles, got.samples, got.event,
+           got.address, got.data);
 }
 
 /*
@@ -151,6 +154,7 @@ static void check_outcome(const char *name, struct second_outcome expected,
  * in `want`, and steps: so each test also checks all that shall stay as it was.
  */
 struct bench {
+    uint32_t set;
     uint8_t program[4096];
     size_t program_len;
     uint8_t ram[256];
@@ -163,10 +167,11 @@ struct bench {
     uint32_t second;
 };
 
-/* 4,096 NOPs, 256 zeros, the state after power-up but for a high T1, idle pins. */
+/* Intel, 4,096 NOPs, 256 zeros, the state after power-up but for a high T1, idle pins. */
 static void fresh(struct bench *b)
 {
     memset(b, 0, sizeof *b);
+    b->set = SECOND_INTEL;
     b->program_len = 4096;
     b->ram_len = 256;
     second_power_up(&b->s);
@@ -189,12 +194,29 @@ static void fresh_with(struct bench *b, uint16_t pc, uint8_t code, uint8_t opera
     b->s.pc = pc;
 }
 
+/* A NEC bench with an instruction at PC 210, in some mode. */
+static void fresh_nec(struct bench *b, uint8_t code, uint8_t mode)
+{
+    fresh_with(b, 0x210, code, 0x5A);
+    b->set = SECOND_NEC;
+    b->s.mode = mode;
+}
+
+/* A step that uses one sample for each of its cycles. */
 static void expect(struct bench *b, uint16_t pc, uint8_t cycles)
 {
     b->want = b->s;
     b->want.pc = pc;
     memcpy(b->want_ram, b->ram, sizeof b->ram);
-    b->want_outcome = (struct second_outcome){.cycles = cycles};
+    b->want_outcome = (struct second_outcome){.cycles = cycles, .samples = cycles};
+}
+
+/* The wait of a halted or stopped machine. */
+static void expect_wait(struct bench *b, uint8_t mode)
+{
+    expect(b, b->s.pc, 0);
+    b->want.mode = mode;
+    b->want_outcome.samples = 1;
 }
 
 static void expect_event(struct bench *b, uint8_t event, uint8_t address, uint8_t data)
@@ -206,8 +228,8 @@ static void expect_event(struct bench *b, uint8_t event, uint8_t address, uint8_
 
 static void step(struct bench *b, const char *name)
 {
-    struct second_outcome outcome =
-        second_step(b->program, b->program_len, b->ram, b->ram_len, &b->s, b->first, b->second);
+    struct second_outcome outcome = second_step(b->set, b->program, b->program_len, b->ram,
+                                                b->ram_len, &b->s, b->first, b->second);
 
     check_outcome(name, b->want_outcome, outcome);
     check_state(name, &b->want, &b->s);
@@ -225,7 +247,8 @@ static void step_refused(struct bench *b, const char *name, uint8_t number)
 /* A step of which only the change of state is wanted. */
 static struct second_outcome just_step(struct bench *b)
 {
-    return second_step(b->program, b->program_len, b->ram, b->ram_len, &b->s, b->first, b->second);
+    return second_step(b->set, b->program, b->program_len, b->ram, b->ram_len, &b->s, b->first,
+                       b->second);
 }
 
 static struct second_totals run_idle(struct bench *b, size_t samples_len)
@@ -234,7 +257,8 @@ static struct second_totals run_idle(struct bench *b, size_t samples_len)
 
     for (size_t i = 0; i < samples_len; i++)
         samples[i] = IDLE;
-    return second_run(b->program, b->program_len, b->ram, b->ram_len, &b->s, samples, samples_len);
+    return second_run(b->set, b->program, b->program_len, b->ram, b->ram_len, &b->s, samples,
+                      samples_len);
 }
 
 /* The codes, written down a second time from document 01 and the data sheets. */
@@ -244,8 +268,10 @@ static const uint8_t undefined_codes[26] = {
     0x9B, 0xA2, 0xA6, 0xB7, 0xC0, 0xC1, 0xC2, 0xC3, 0xD6, 0xE0, 0xE1, 0xE2, 0xF3,
 };
 
-static bool is_undefined(unsigned code)
+static bool is_undefined(uint32_t set, unsigned code)
 {
+    if (set == SECOND_NEC && (code == 0x01 || code == 0x82)) /* HALT, STOP */
+        return false;
     return memchr(undefined_codes, (int)code, sizeof undefined_codes) != NULL;
 }
 
@@ -253,7 +279,7 @@ static bool is_two_bytes(unsigned code)
 {
     unsigned low = code & 0x0F;
 
-    if (is_undefined(code))
+    if (is_undefined(SECOND_INTEL, code)) /* HALT and STOP have one byte */
         return false;
     if (low == 0x4) /* JMP, CALL */
         return true;
@@ -276,7 +302,7 @@ static bool is_two_cycles(unsigned code)
 
     if (is_two_bytes(code))
         return true;
-    if (is_undefined(code))
+    if (is_undefined(SECOND_INTEL, code)) /* HALT and STOP take one cycle */
         return false;
     /* RET, RETR, JMPP, MOVP, MOVP3 */
     if (code == 0x83 || code == 0x93 || code == 0xB3 || code == 0xA3 || code == 0xE3)
@@ -414,6 +440,7 @@ static void refusals(void)
 {
     static const size_t bad_programs[] = {0, 1, 64, 1000, 1023, 1025, 2047, 3072, 4095};
     static const size_t bad_rams[] = {0, 1, 63, 65, 127, 129, 192, 255, 257, 512, 1024};
+    static const uint32_t bad_sets[] = {2, 3, 0x100, 0x101, 0x10001, 0x80000000, UINT32_MAX};
     static const size_t programs[] = {1024, 2048, 4096};
     static const size_t rams[] = {64, 128, 256};
     struct bench b;
@@ -461,6 +488,15 @@ static void refusals(void)
             b.s.pc = 4096;
         step_refused(&b, "3: outside its sizes", 3);
     }
+    for (unsigned mode = 1; mode < 256; mode++) {
+        fresh(&b);
+        b.s.mode = (uint8_t)mode;
+        step_refused(&b, "3: for Intel any mode but running", 3);
+        if (mode > 3) {
+            b.set = SECOND_NEC;
+            step_refused(&b, "3: for NEC a mode above 3", 3);
+        }
+    }
     fresh(&b);
     b.s.psw = 0xF7;
     step_refused(&b, "3: PSW bit 3", 3);
@@ -477,13 +513,16 @@ static void refusals(void)
         step_refused(&b, "6: second sample, though NOP takes one cycle", 6);
     }
 
-    /* The order 1, 2, 3, 6, then 5 and 4: all at once, then mended one by one. */
+    /* The order 25, 1, 2, 3, 6, then 5 and 4: all at once, then mended one by one. */
     fresh_with(&b, 0x400, 0x66, 0);
+    b.set = 2;
     b.program_len = 1000;
     b.ram_len = 100;
     b.s.tf = 2;
     b.second |= UINT32_C(1) << 31;
-    step_refused(&b, "order: 1 first", 1);
+    step_refused(&b, "order: 25 first", 25);
+    b.set = SECOND_NEC;
+    step_refused(&b, "order: then 1", 1);
     b.program_len = 1024;
     step_refused(&b, "order: then 2", 2);
     b.ram_len = 64;
@@ -494,6 +533,12 @@ static void refusals(void)
     step_refused(&b, "order: then 5", 5);
     b.program_len = 2048;
     step_refused(&b, "order: then 4", 4);
+
+    for (size_t i = 0; i < sizeof bad_sets / sizeof *bad_sets; i++) {
+        fresh(&b);
+        b.set = bad_sets[i];
+        step_refused(&b, "25: set neither Intel nor NEC", 25);
+    }
 
     fresh(&b);
     b.first = RESET_LOW | UINT32_C(1) << 28;
@@ -544,7 +589,7 @@ static void refusals(void)
 }
 
 /* Each of the 256 codes: refused or not, its length, its cycles, and that they are counted. */
-static void codes(void)
+static void codes(uint32_t set, unsigned undefined, unsigned one_byte)
 {
     unsigned counts[3] = {0, 0, 0}; /* undefined, one byte, two bytes */
     unsigned two_cycles = 0;
@@ -552,10 +597,10 @@ static void codes(void)
 
     for (unsigned code = 0; code < 256; code++) {
         uint8_t bytes[2] = {(uint8_t)code, 0x5A};
-        struct second_reading reading = second_read(bytes, 2, 0);
-        uint8_t number = is_undefined(code) ? 4 : 0;
-        uint8_t length = is_undefined(code) ? 0 : is_two_bytes(code) ? 2 : 1;
-        uint8_t cycles = is_undefined(code) ? 0 : is_two_cycles(code) ? 2 : 1;
+        struct second_reading reading = second_read(set, bytes, 2, 0);
+        uint8_t number = is_undefined(set, code) ? 4 : 0;
+        uint8_t length = is_undefined(set, code) ? 0 : is_two_bytes(code) ? 2 : 1;
+        uint8_t cycles = is_undefined(set, code) ? 0 : is_two_cycles(code) ? 2 : 1;
 
         check("codes: reader's number", number, reading.number);
         check("codes: length", length, reading.length);
@@ -563,18 +608,21 @@ static void codes(void)
         two_cycles += cycles == 2;
 
         fresh_with(&b, 0x210, (uint8_t)code, 0x5A);
+        b.set = set;
         struct second_outcome outcome = just_step(&b);
         check("codes: step's number", number, outcome.number);
         check("codes: step's cycles", cycles, outcome.cycles);
+        check("codes: step's samples", cycles, outcome.samples);
 
         fresh_with(&b, 0x210, (uint8_t)code, 0x5A);
+        b.set = set;
         b.s.counting = SECOND_TIMER;
         just_step(&b);
         if (code != 0x55 && code != 0x45 && code != 0x65)
             check("codes: cycles counted", cycles, b.s.divider);
     }
-    check("codes: 26 undefined", 26, counts[0]);
-    check("codes: 164 of one byte", 164, counts[1]);
+    check("codes: undefined", undefined, counts[0]);
+    check("codes: of one byte", one_byte, counts[1]);
     check("codes: 66 of two bytes", 66, counts[2]);
     check("codes: 97 of two cycles", 97, two_cycles);
 }
@@ -617,7 +665,7 @@ static void resets(void)
         .bus = 0x56,
     };
     memcpy(b.want_ram, b.ram, sizeof b.ram);
-    b.want_outcome = (struct second_outcome){.cycles = 1};
+    b.want_outcome = (struct second_outcome){.cycles = 1, .samples = 1};
     step(&b, "reset: what it clears and keeps, an interrupt waiting");
 
     fresh(&b);
@@ -753,6 +801,347 @@ static void interrupts(void)
         b.want.request = divider != 29;
         step(&b, "timer call: its cycles are counted");
     }
+}
+
+/* HALT and STOP (02, item 2). */
+
+static const struct {
+    uint8_t code;
+    uint8_t mode;
+} halts[2] = {{0x01, SECOND_MODE_HALTED}, {0x82, SECOND_MODE_STOPPED}};
+
+static void entering(void)
+{
+    struct bench b;
+
+    for (size_t k = 0; k < 2; k++) {
+        fresh_nec(&b, halts[k].code, SECOND_MODE_RUNS);
+        b.second = INT_LOW;
+        expect(&b, 0x211, 1);
+        b.want.mode = halts[k].mode;
+        step(&b, "entered; INT low in the second sample isn't seen");
+
+        fresh_nec(&b, halts[k].code, SECOND_MODE_RUNS);
+        b.first = INT_LOW;
+        expect(&b, 0x211, 1);
+        step(&b, "not entered with INT low in the first sample");
+        fresh_nec(&b, halts[k].code, SECOND_MODE_RUNS);
+        b.first = INT_LOW;
+        b.s.external_enabled = 1;
+        b.s.in_service = 1;
+        expect(&b, 0x211, 1);
+        step(&b, "not entered with INT low, in service");
+
+        fresh_nec(&b, halts[k].code, SECOND_MODE_RUNS);
+        b.first = INT_LOW;
+        b.s.external_enabled = 1;
+        expect(&b, 0x003, 2);
+        b.want.in_service = 1;
+        b.want.psw = ONE | 1;
+        b.want_ram[8] = 0x10;
+        b.want_ram[9] = 0x02;
+        step(&b, "the external call comes before HALT and STOP");
+        fresh_nec(&b, halts[k].code, SECOND_MODE_RUNS);
+        b.s.timer_enabled = 1;
+        b.s.request = 1;
+        expect(&b, 0x007, 2);
+        b.want.in_service = 1;
+        b.want.request = 0;
+        b.want.psw = ONE | 1;
+        b.want_ram[8] = 0x10;
+        b.want_ram[9] = 0x02;
+        step(&b, "the timer call comes before HALT and STOP");
+
+        fresh_nec(&b, halts[k].code, SECOND_MODE_RELEASED);
+        expect(&b, 0x211, 1);
+        b.want.mode = halts[k].mode;
+        step(&b, "entered right after a release");
+        fresh_nec(&b, halts[k].code, SECOND_MODE_RELEASED);
+        b.first = INT_LOW;
+        expect(&b, 0x211, 1);
+        b.want.mode = SECOND_MODE_RUNS;
+        step(&b, "not entered right after a release, INT still low: it runs");
+
+        /* Its own cycle is counted. */
+        for (uint8_t enabled = 0; enabled < 2; enabled++) {
+            fresh_nec(&b, halts[k].code, SECOND_MODE_RUNS);
+            b.s.counting = SECOND_TIMER;
+            b.s.divider = 31;
+            b.s.t = 0xFF;
+            b.s.timer_enabled = enabled;
+            expect(&b, 0x211, 1);
+            b.want.mode = halts[k].mode;
+            b.want.divider = 0;
+            b.want.t = 0x00;
+            b.want.tf = 1;
+            b.want.request = enabled;
+            step(&b, "timer overflow in its own cycle");
+
+            fresh_nec(&b, halts[k].code, SECOND_MODE_RUNS);
+            b.s.counting = SECOND_COUNTER;
+            b.s.t = 0xFF;
+            b.s.timer_enabled = enabled;
+            b.first = T1_LOW;
+            expect(&b, 0x211, 1);
+            b.want.mode = halts[k].mode;
+            b.want.t = 0x00;
+            b.want.tf = 1;
+            b.want.request = enabled;
+            b.want.last_t1 = 0;
+            step(&b, "counter overflow in its own cycle");
+        }
+
+        fresh_with(&b, 0x7FF, halts[k].code, 0);
+        b.set = SECOND_NEC;
+        expect(&b, 0x000, 1);
+        b.want.mode = halts[k].mode;
+        step(&b, "HALT and STOP at 7FF");
+
+        fresh_with(&b, 0x210, halts[k].code, 0);
+        step_refused(&b, "HALT and STOP for Intel", 4);
+    }
+}
+
+static void waiting(void)
+{
+    struct bench b;
+
+    for (size_t k = 0; k < 2; k++) {
+        /* Whatever is at PC, and past the program's end too. */
+        fresh_nec(&b, 0x66, halts[k].mode);
+        b.second = RESET_LOW & INT_LOW;
+        expect_wait(&b, halts[k].mode);
+        step(&b, "a wait looks at the first sample");
+        b.program_len = 1024;
+        b.s.pc = 0xFFF;
+        expect_wait(&b, halts[k].mode);
+        step(&b, "a wait fetches nothing");
+
+        fresh_nec(&b, 0x00, halts[k].mode);
+        b.s.counting = SECOND_TIMER;
+        b.s.divider = 31;
+        b.s.t = 0xFF;
+        b.s.timer_enabled = 1;
+        expect_wait(&b, halts[k].mode);
+        step(&b, "the timer stands in a wait");
+        fresh_nec(&b, 0x00, halts[k].mode);
+        b.s.counting = SECOND_COUNTER;
+        b.s.t = 0xFF;
+        b.first = T1_LOW;
+        expect_wait(&b, halts[k].mode);
+        step(&b, "a fall of T1 isn't counted in a wait, and T1 not remembered");
+
+        fresh_nec(&b, 0x00, halts[k].mode);
+        b.s.external_enabled = 1;
+        b.s.timer_enabled = 1;
+        b.s.request = 1;
+        expect_wait(&b, halts[k].mode);
+        step(&b, "a request waits too");
+        b.first = INT_LOW;
+        expect_wait(&b, SECOND_MODE_RELEASED);
+        step(&b, "INT low releases, and that is all, with a call allowed and a request stored");
+        fresh_nec(&b, 0x00, halts[k].mode);
+        b.s.in_service = 1;
+        b.first = INT_LOW & T1_LOW;
+        b.s.counting = SECOND_COUNTER;
+        expect_wait(&b, SECOND_MODE_RELEASED);
+        step(&b, "INT low releases, interrupts disabled or one in service");
+
+        fresh_nec(&b, 0x00, halts[k].mode);
+        b.s.a = 0x5A;
+        b.s.tf = 1;
+        b.s.request = 1;
+        b.s.counting = SECOND_TIMER;
+        b.s.p1 = 0x12;
+        b.first = RESET_LOW & INT_LOW & T1_LOW;
+        expect(&b, 0, 1);
+        b.want.mode = SECOND_MODE_RUNS;
+        b.want.tf = 0;
+        b.want.request = 0;
+        b.want.counting = SECOND_STOPPED;
+        b.want.p1 = 0xFF;
+        b.want.last_t1 = 0;
+        step(&b, "RESET low goes before INT low: a reset step, and it runs");
+
+        for (int bit = 28; bit < 32; bit++) {
+            fresh_nec(&b, 0x00, halts[k].mode);
+            b.first |= UINT32_C(1) << bit;
+            step_refused(&b, "6 in a wait: first sample", 6);
+            fresh_nec(&b, 0x00, halts[k].mode);
+            b.second |= UINT32_C(1) << bit;
+            step_refused(&b, "6 in a wait: second sample, though it uses one", 6);
+        }
+        fresh_nec(&b, 0x00, halts[k].mode);
+        b.first = RESET_LOW | UINT32_C(1) << 28;
+        step_refused(&b, "6 in a wait before reset", 6);
+    }
+}
+
+static void releasing(void)
+{
+    struct bench b;
+
+    fresh_nec(&b, 0x23, SECOND_MODE_RELEASED);
+    b.s.external_enabled = 1;
+    b.s.timer_enabled = 1;
+    b.s.request = 1;
+    b.first = INT_LOW;
+    b.second = INT_LOW;
+    expect(&b, 0x212, 2);
+    b.want.a = 0x5A;
+    b.want.mode = SECOND_MODE_RUNS;
+    step(&b, "one instruction runs before a call");
+    expect(&b, 0x003, 2);
+    b.want.in_service = 1;
+    b.want.psw = ONE | 1;
+    b.want_ram[8] = 0x12;
+    b.want_ram[9] = 0x02;
+    step(&b, "then the external call");
+
+    fresh_nec(&b, 0x23, SECOND_MODE_RELEASED);
+    b.s.timer_enabled = 1;
+    b.s.request = 1;
+    expect(&b, 0x212, 2);
+    b.want.a = 0x5A;
+    b.want.mode = SECOND_MODE_RUNS;
+    step(&b, "one instruction runs before a timer call");
+    expect(&b, 0x007, 2);
+    b.want.in_service = 1;
+    b.want.request = 0;
+    b.want.psw = ONE | 1;
+    b.want_ram[8] = 0x12;
+    b.want_ram[9] = 0x02;
+    step(&b, "then the timer call");
+
+    fresh_nec(&b, 0x00, SECOND_MODE_RELEASED);
+    b.s.counting = SECOND_COUNTER;
+    b.s.t = 0xFF;
+    b.first = T1_LOW;
+    expect(&b, 0x211, 1);
+    b.want.mode = SECOND_MODE_RUNS;
+    b.want.t = 0x00;
+    b.want.tf = 1;
+    b.want.last_t1 = 0;
+    step(&b, "a fall of T1 since the cycle before the halt counts");
+
+    /* A refused step leaves "released". */
+    fresh_nec(&b, 0x66, SECOND_MODE_RELEASED);
+    b.s.external_enabled = 1;
+    b.first = INT_LOW;
+    step_refused(&b, "released: 4", 4);
+    b.s.pc = 0x400;
+    b.program_len = 1024;
+    step_refused(&b, "released: 5", 5);
+    b.s.pc = 0x3FF;
+    b.program[0x3FF] = 0x23;
+    step_refused(&b, "released: 5 for the second byte", 5);
+    b.program[0x3FF] = 0xA3;
+    step_refused(&b, "released: 5 for the table byte", 5);
+    b.second |= UINT32_C(1) << 30;
+    step_refused(&b, "released: 6", 6);
+
+    fresh_nec(&b, 0x23, SECOND_MODE_RELEASED);
+    b.first = RESET_LOW & INT_LOW;
+    expect(&b, 0, 1);
+    b.want.mode = SECOND_MODE_RUNS;
+    step(&b, "released: a reset, and it runs");
+}
+
+/* Samples that all have INT and RESET high but for those that a test puts low. */
+static void idle_samples(uint32_t *samples, size_t len)
+{
+    for (size_t i = 0; i < len; i++)
+        samples[i] = IDLE;
+}
+
+/* HALT at 210, a NOP after it, the external interrupt enabled, and INT low from sample 3 on. */
+static struct second_totals halted_run(struct bench *b, size_t low, size_t samples_len)
+{
+    uint32_t samples[16];
+
+    fresh_nec(b, 0x01, SECOND_MODE_RUNS);
+    b->program[0x211] = 0x00;
+    b->s.external_enabled = 1;
+    idle_samples(samples, 16);
+    for (size_t i = 3; i < 3 + low; i++)
+        samples[i] = INT_LOW;
+    return second_run(SECOND_NEC, b->program, 4096, b->ram, 256, &b->s, samples, samples_len);
+}
+
+static void halted_runs(void)
+{
+    struct bench b;
+    struct second_totals totals;
+    uint32_t samples[8];
+
+    for (size_t k = 0; k < 2; k++) {
+        fresh_nec(&b, 0x66, halts[k].mode);
+        b.want = b.s;
+        totals = run_idle(&b, 8);
+        check("a run of waits: number", 0, totals.number);
+        check("a run of waits: samples", 7, totals.samples);
+        check("a run of waits: cycles", 0, (unsigned long)totals.cycles);
+        check_state("a run of waits: state", &b.want, &b.s);
+    }
+
+    /* HALT 1, waits 2, release 1, NOP 1, call 2: seven samples, four of them cycles. */
+    totals = halted_run(&b, 3, 7);
+    check("three samples of INT low: number", 0, totals.number);
+    check("three samples of INT low: samples", 7, totals.samples);
+    check("three samples of INT low: cycles", 4, (unsigned long)totals.cycles);
+    check("three samples of INT low: called", 0x003, b.s.pc);
+    check("three samples of INT low: pushed", 0x12, b.ram[8]);
+    totals = halted_run(&b, 2, 7);
+    check("two samples of INT low: samples", 6, totals.samples);
+    check("two samples of INT low: cycles", 3, (unsigned long)totals.cycles);
+    check("two samples of INT low: not called", 0x213, b.s.pc);
+    totals = halted_run(&b, 1, 7);
+    check("one sample of INT low: released all the same", 0x213, b.s.pc);
+    totals = halted_run(&b, 0, 7);
+    check("INT stays high: samples", 6, totals.samples);
+    check("INT stays high: cycles", 1, (unsigned long)totals.cycles);
+    check("INT stays high: PC", 0x211, b.s.pc);
+    check("INT stays high: mode", SECOND_MODE_HALTED, b.s.mode);
+    totals = halted_run(&b, 1, 5);
+    check("a run that ends with the release: samples", 4, totals.samples);
+    check("a run that ends with the release: cycles", 1, (unsigned long)totals.cycles);
+    check("a run that ends with the release: mode", SECOND_MODE_RELEASED, b.s.mode);
+
+    /* Refused after the release: what was done stands, and it is still released. */
+    fresh_nec(&b, 0x82, SECOND_MODE_RUNS);
+    b.program[0x211] = 0x66;
+    idle_samples(samples, 8);
+    samples[1] = INT_LOW;
+    totals = second_run(SECOND_NEC, b.program, 4096, b.ram, 256, &b.s, samples, 8);
+    check("refused after a release: number", 4, totals.number);
+    check("refused after a release: samples", 2, totals.samples);
+    check("refused after a release: cycles", 1, (unsigned long)totals.cycles);
+    check("refused after a release: mode", SECOND_MODE_RELEASED, b.s.mode);
+
+    /* A request stored in HALT's own cycle: called after the release and one instruction. */
+    fresh_nec(&b, 0x01, SECOND_MODE_RUNS);
+    b.program[0x211] = 0x00;
+    b.s.counting = SECOND_TIMER;
+    b.s.divider = 31;
+    b.s.t = 0xFF;
+    b.s.timer_enabled = 1;
+    idle_samples(samples, 8);
+    samples[4] = INT_LOW;
+    totals = second_run(SECOND_NEC, b.program, 4096, b.ram, 256, &b.s, samples, 8);
+    check("a request through a halt: samples", 8, totals.samples);
+    check("a request through a halt: cycles", 4, (unsigned long)totals.cycles);
+    check("a request through a halt: called", 0x007, b.s.pc);
+    check("a request through a halt: pushed", 0x12, b.ram[8]);
+    check("a request through a halt: T", 0x00, b.s.t);
+    check("a request through a halt: three cycles after it", 3, b.s.divider);
+
+    fresh_nec(&b, 0x01, SECOND_MODE_RUNS);
+    idle_samples(samples, 8);
+    samples[3] = RESET_LOW & INT_LOW;
+    totals = second_run(SECOND_NEC, b.program, 4096, b.ram, 256, &b.s, samples, 8);
+    check("reset out of a halt: samples", 7, totals.samples);
+    check("reset out of a halt: cycles", 5, (unsigned long)totals.cycles);
+    check("reset out of a halt: PC", 3, b.s.pc);
 }
 
 static void counting(void)
@@ -1691,16 +2080,26 @@ static void runs(void)
     for (size_t len = 0; len < 2; len++) {
         fresh_with(&b, 0, 0x66, 0);
         b.want = b.s;
-        totals = second_run(b.program, 1000, b.ram, 100, &b.s, len ? samples : NULL, len);
+        totals = second_run(2, b.program, 1000, b.ram, 100, &b.s, len ? samples : NULL, len);
+        check("short run: 25", 25, totals.number);
+        check("short run: 25, samples", 0, totals.samples);
+        check("short run: 25, cycles", 0, (unsigned long)totals.cycles);
+        totals = second_run(SECOND_INTEL, b.program, 1000, b.ram, 100, &b.s, samples, len);
         check("short run: 1", 1, totals.number);
-        totals = second_run(b.program, 1024, b.ram, 100, &b.s, samples, len);
+        totals = second_run(SECOND_INTEL, b.program, 1024, b.ram, 100, &b.s, samples, len);
         check("short run: 2", 2, totals.number);
         b.s.tf = b.want.tf = 2;
-        totals = second_run(b.program, 1024, b.ram, 64, &b.s, samples, len);
+        totals = second_run(SECOND_INTEL, b.program, 1024, b.ram, 64, &b.s, samples, len);
         check("short run: 3", 3, totals.number);
         b.s.tf = b.want.tf = 0;
+        b.s.mode = b.want.mode = SECOND_MODE_HALTED;
+        totals = second_run(SECOND_INTEL, b.program, 1024, b.ram, 64, &b.s, samples, len);
+        check("short run: 3 for a halted Intel", 3, totals.number);
+        totals = second_run(SECOND_NEC, b.program, 1024, b.ram, 64, &b.s, samples, len);
+        check("short run: not so for NEC", 0, totals.number);
+        b.s.mode = b.want.mode = SECOND_MODE_RUNS;
         samples[0] = UINT32_MAX;
-        totals = second_run(b.program, 1024, b.ram, 64, &b.s, samples, len);
+        totals = second_run(SECOND_INTEL, b.program, 1024, b.ram, 64, &b.s, samples, len);
         samples[0] = IDLE;
         check("short run: number", 0, totals.number);
         check("short run: samples", 0, totals.samples);
@@ -1709,7 +2108,7 @@ static void runs(void)
     }
 
     fresh(&b);
-    totals = second_run(b.program, 4096, b.ram, 256, &b.s, samples, 8);
+    totals = second_run(SECOND_INTEL, b.program, 4096, b.ram, 256, &b.s, samples, 8);
     check("run of NOPs: number", 0, totals.number);
     check("run of NOPs: a last single sample isn't used", 7, totals.samples);
     check("run of NOPs: cycles", 7, (unsigned long)totals.cycles);
@@ -1717,12 +2116,12 @@ static void runs(void)
 
     fresh(&b);
     samples[7] = UINT32_MAX;
-    totals = second_run(b.program, 4096, b.ram, 256, &b.s, samples, 8);
+    totals = second_run(SECOND_INTEL, b.program, 4096, b.ram, 256, &b.s, samples, 8);
     check("run: 6 through a one-cycle step's second sample", 6, totals.number);
     check("run: samples before the 6", 6, totals.samples);
     check("run: PC before the 6", 6, b.s.pc);
     fresh_with(&b, 0, 0x04, 0x00);
-    totals = second_run(b.program, 4096, b.ram, 256, &b.s, samples, 7);
+    totals = second_run(SECOND_INTEL, b.program, 4096, b.ram, 256, &b.s, samples, 7);
     check("run: a last single sample isn't looked at: number", 0, totals.number);
     check("run: a last single sample isn't looked at: samples", 6, totals.samples);
     samples[7] = IDLE;
@@ -1730,7 +2129,7 @@ static void runs(void)
     fresh(&b);
     b.program[3] = 0x66;
     put2(&b, 1, 0x23, 0x5A);
-    totals = second_run(b.program, 4096, b.ram, 256, &b.s, samples, 8);
+    totals = second_run(SECOND_INTEL, b.program, 4096, b.ram, 256, &b.s, samples, 8);
     check("run refused: number", 4, totals.number);
     check("run refused: samples", 3, totals.samples);
     check("run refused: cycles", 3, (unsigned long)totals.cycles);
@@ -1738,7 +2137,7 @@ static void runs(void)
     check("run refused: PC", 3, b.s.pc);
 
     fresh_with(&b, 0x123, 0x66, 0);
-    totals = second_run(b.program, 4096, b.ram, 256, &b.s, samples, 8);
+    totals = second_run(SECOND_INTEL, b.program, 4096, b.ram, 256, &b.s, samples, 8);
     check("run refused at once: number", 4, totals.number);
     check("run refused at once: samples", 0, totals.samples);
     check("run refused at once: cycles", 0, (unsigned long)totals.cycles);
@@ -1747,7 +2146,7 @@ static void runs(void)
     fresh(&b);
     b.s.external_enabled = 1;
     samples[1] = INT_LOW;
-    totals = second_run(b.program, 4096, b.ram, 256, &b.s, samples, 3);
+    totals = second_run(SECOND_INTEL, b.program, 4096, b.ram, 256, &b.s, samples, 3);
     check("run: pairs overlap: samples", 3, totals.samples);
     check("run: pairs overlap: PC", 3, b.s.pc);
     check("run: pairs overlap: pushed", 1, b.ram[8]);
@@ -1755,7 +2154,7 @@ static void runs(void)
 
     memset(samples, 0, sizeof samples);
     fresh_with(&b, 0x123, 0x66, 0);
-    totals = second_run(b.program, 4096, b.ram, 256, &b.s, samples, 8);
+    totals = second_run(SECOND_INTEL, b.program, 4096, b.ram, 256, &b.s, samples, 8);
     check("run of zeros is all resets: number", 0, totals.number);
     check("run of zeros is all resets: samples", 7, totals.samples);
     check("run of zeros is all resets: PC", 0, b.s.pc);
@@ -1766,21 +2165,23 @@ static void reader(void)
     static uint8_t program[4097];
     struct second_reading r;
 
-    r = second_read(NULL, 0, 0);
+    r = second_read(SECOND_INTEL, NULL, 0, 0);
     check("reader: empty program", 5, r.number);
-    r = second_read(program, 4097, 5000);
+    r = second_read(2, program, 4097, 5000);
+    check("reader: 25 before 1", 25, r.number);
+    r = second_read(SECOND_INTEL, program, 4097, 5000);
     check("reader: 1 before 5", 1, r.number);
-    r = second_read(program, 4096, 4096);
+    r = second_read(SECOND_INTEL, program, 4096, 4096);
     check("reader: address at the end", 5, r.number);
-    r = second_read(program, 4096, SIZE_MAX);
+    r = second_read(SECOND_INTEL, program, 4096, SIZE_MAX);
     check("reader: greatest address", 5, r.number);
     program[9] = 0x66;
-    r = second_read(program, 10, 9);
+    r = second_read(SECOND_INTEL, program, 10, 9);
     check("reader: 4 before the second 5", 4, r.number);
     check("reader: refused: length", 0, r.length);
     check("reader: refused: byte", 0, r.bytes[0]);
     program[9] = 0x23;
-    r = second_read(program, 10, 9);
+    r = second_read(SECOND_INTEL, program, 10, 9);
     check("reader: no second byte", 5, r.number);
     check("reader: refused: length", 0, r.length);
     check("reader: refused: byte", 0, r.bytes[0]);
@@ -1789,12 +2190,27 @@ static void reader(void)
     program[0x000] = 0x11;
     program[0x800] = 0x99;
     program[0xFFF] = 0xE4;
-    r = second_read(program, 4096, 0x7FF);
+    r = second_read(SECOND_INTEL, program, 4096, 0x7FF);
     check("reader: wraps at 7FF", 0x11, r.instruction.data);
-    r = second_read(program, 2048, 0x7FF);
+    r = second_read(SECOND_INTEL, program, 2048, 0x7FF);
     check("reader: wraps at 7FF of 2,048", 0x11, r.instruction.data);
-    r = second_read(program, 4096, 0xFFF);
+    r = second_read(SECOND_INTEL, program, 4096, 0xFFF);
     check("reader: wraps at FFF", 0x799, r.instruction.address);
+
+    program[0x100] = 0x01;
+    program[0x101] = 0x82;
+    r = second_read(SECOND_NEC, program, 0x101, 0x100);
+    check("reader: HALT", SECOND_HALT, r.instruction.operation);
+    check("reader: HALT, length", 1, r.length);
+    check("reader: HALT, first byte", 0x01, r.bytes[0]);
+    r = second_read(SECOND_NEC, program, 0x102, 0x101);
+    check("reader: STOP", SECOND_STOP, r.instruction.operation);
+    check("reader: STOP, length", 1, r.length);
+    check("reader: STOP, first byte", 0x82, r.bytes[0]);
+    r = second_read(SECOND_INTEL, program, 4096, 0x100);
+    check("reader: HALT for Intel", 4, r.number);
+    r = second_read(SECOND_INTEL, program, 4096, 0x101);
+    check("reader: STOP for Intel", 4, r.number);
 
     static const struct {
         uint8_t code;
@@ -1828,7 +2244,7 @@ static void reader(void)
         /* In the upper bank, where a conditional jump still holds only 8 bits. */
         program[0xC00] = rows[k].code;
         program[0xC01] = 0xA5;
-        r = second_read(program, 4096, 0xC00);
+        r = second_read(SECOND_INTEL, program, 4096, 0xC00);
         check("reader: operation", rows[k].i.operation, r.instruction.operation);
         check("reader: register", rows[k].i.reg, r.instruction.reg);
         check("reader: port", rows[k].i.port, r.instruction.port);
@@ -1840,19 +2256,19 @@ static void reader(void)
     }
 }
 
-static void writer(void)
+/* What is read is written as it was. */
+static void rewriter(uint32_t set, unsigned instructions)
 {
     bool used[SECOND_OPERATIONS] = {false};
     unsigned operations = 0;
 
-    /* What is read is written as it was. */
     for (unsigned code = 0; code < 256; code++) {
         for (unsigned operand = 0; operand < 256; operand++) {
             uint8_t bytes[2] = {(uint8_t)code, (uint8_t)operand};
-            struct second_reading r = second_read(bytes, 2, 0);
+            struct second_reading r = second_read(set, bytes, 2, 0);
             if (r.number != 0)
                 continue;
-            struct second_written w = second_write(&r.instruction);
+            struct second_written w = second_write(set, &r.instruction);
             check("writer: number", 0, w.number);
             check("writer: length", r.length, w.length);
             check("writer: first byte", code, w.bytes[0]);
@@ -1862,8 +2278,11 @@ static void writer(void)
     }
     for (int i = 0; i < SECOND_OPERATIONS; i++)
         operations += used[i];
-    check("writer: 96 instructions", 96, operations);
+    check("writer: instructions", instructions, operations);
+}
 
+static void writer(void)
+{
     static const struct {
         struct second_instruction i;
         bool fits;
@@ -1915,7 +2334,7 @@ static void writer(void)
         {{SECOND_MOV_A_DATA, 0, 0, 0, 0x100, 0}, false},
     };
     for (size_t k = 0; k < sizeof rows / sizeof *rows; k++) {
-        struct second_written w = second_write(&rows[k].i);
+        struct second_written w = second_write(SECOND_INTEL, &rows[k].i);
         check("writer: operand fits or 23", rows[k].fits ? 0 : 23, w.number);
         if (!rows[k].fits) {
             check("writer: 23 and no length", 0, w.length);
@@ -1924,11 +2343,28 @@ static void writer(void)
         }
     }
     struct second_instruction none = {(enum second_operation)SECOND_OPERATIONS, 0, 0, 0, 0, 0};
-    check("writer: none of the 96 operations", 23, second_write(&none).number);
+    check("writer: none of the 98 operations", 23, second_write(SECOND_INTEL, &none).number);
+    check("writer: none of the 98 operations", 23, second_write(SECOND_NEC, &none).number);
+    check("writer: 25 first", 25, second_write(2, &none).number);
     struct second_instruction call = {SECOND_CALL, 0, 0, 0, 0, 0x7A5};
-    struct second_written w = second_write(&call);
+    struct second_written w = second_write(SECOND_INTEL, &call);
     check("writer: CALL 7A5, first byte", 0xF4, w.bytes[0]);
     check("writer: CALL 7A5, second byte", 0xA5, w.bytes[1]);
+
+    /* Operands that an operation doesn't have are not looked at. */
+    static const struct second_instruction nec[] = {{SECOND_HALT, 8, 8, 8, 0x100, 0x800},
+                                                    {SECOND_STOP, 8, 8, 8, 0x100, 0x800}};
+    for (size_t k = 0; k < 2; k++) {
+        w = second_write(SECOND_NEC, &nec[k]);
+        check("writer: HALT and STOP for NEC: number", 0, w.number);
+        check("writer: HALT and STOP for NEC: length", 1, w.length);
+        check("writer: HALT and STOP for NEC: code", k == 0 ? 0x01 : 0x82, w.bytes[0]);
+        check("writer: HALT and STOP for NEC: second byte", 0, w.bytes[1]);
+        w = second_write(SECOND_INTEL, &nec[k]);
+        check("writer: HALT and STOP for Intel: number", 4, w.number);
+        check("writer: HALT and STOP for Intel: length", 0, w.length);
+        check("writer: HALT and STOP for Intel: code", 0, w.bytes[0]);
+    }
 }
 
 /* The text of each code at B10 with the second byte A5. */
@@ -2017,8 +2453,8 @@ static const char *const spellings[256] = {
 };
 /* clang-format on */
 
-static void check_line(const char *expected, const uint8_t *program, size_t program_len,
-                       size_t address, size_t addresses)
+static void check_line_of(uint32_t set, const char *expected, const uint8_t *program,
+                          size_t program_len, size_t address, size_t addresses)
 {
     uint8_t line[40];
     uint8_t untouched[40];
@@ -2026,7 +2462,7 @@ static void check_line(const char *expected, const uint8_t *program, size_t prog
 
     memset(line, 0xEE, sizeof line);
     memset(untouched, 0xEE, sizeof untouched);
-    listed = second_line(program, program_len, address, line, SECOND_LINE_SIZE);
+    listed = second_line(set, program, program_len, address, line, SECOND_LINE_SIZE);
     check("line: number", 0, listed.number);
     check("line: addresses", addresses, listed.addresses);
     if (listed.written > SECOND_LINE_SIZE) {
@@ -2038,8 +2474,14 @@ static void check_line(const char *expected, const uint8_t *program, size_t prog
                 sizeof line - listed.written);
 }
 
-static void check_line_refused(uint8_t number, const uint8_t *program, size_t program_len,
-                               size_t address, size_t line_len)
+static void check_line(const char *expected, const uint8_t *program, size_t program_len,
+                       size_t address, size_t addresses)
+{
+    check_line_of(SECOND_INTEL, expected, program, program_len, address, addresses);
+}
+
+static void check_line_refused(uint8_t number, uint32_t set, const uint8_t *program,
+                               size_t program_len, size_t address, size_t line_len)
 {
     uint8_t line[64];
     uint8_t untouched[64];
@@ -2047,7 +2489,7 @@ static void check_line_refused(uint8_t number, const uint8_t *program, size_t pr
 
     memset(line, 0xEE, sizeof line);
     memset(untouched, 0xEE, sizeof untouched);
-    listed = second_line(program, program_len, address, line, line_len);
+    listed = second_line(set, program, program_len, address, line, line_len);
     check("line refused: number", number, listed.number);
     check("line refused: written", 0, listed.written);
     check("line refused: addresses", 0, listed.addresses);
@@ -2067,7 +2509,15 @@ static void lines(void)
         else
             snprintf(expected, sizeof expected, "B10  %02X     %s\n", code, spellings[code]);
         check_line(expected, program, 4096, 0xB10, is_two_bytes(code) ? 2 : 1);
+        if (code != 0x01 && code != 0x82)
+            check_line_of(SECOND_NEC, expected, program, 4096, 0xB10, is_two_bytes(code) ? 2 : 1);
     }
+    program[0xB10] = 0x01;
+    check_line_of(SECOND_NEC, "B10  01     HALT\n", program, 4096, 0xB10, 1);
+    program[0xB10] = 0x82;
+    check_line_of(SECOND_NEC, "B10  82     STOP\n", program, 4096, 0xB10, 1);
+    program[0xFFF] = 0x01;
+    check_line_of(SECOND_NEC, "FFF  01     HALT\n", program, 4096, 0xFFF, 1);
 
     program[0x010] = 0x03;
     program[0x011] = 0x9F;
@@ -2120,12 +2570,15 @@ static void lines(void)
     check_line("FFE  C6 96  JZ 0F96H\n", program, 4096, 0xFFE, 2);
     check_line("FFF  96     DB 96H\n", program, 4096, 0xFFF, 1);
 
-    check_line_refused(1, program, 4097, 5000, 31);
-    check_line_refused(7, program, 4096, 5000, 31);
-    check_line_refused(7, program, 4096, 0, 0);
-    check_line_refused(5, program, 4096, 4096, 32);
-    check_line_refused(5, program, 4096, SIZE_MAX, 64);
-    check_line_refused(5, NULL, 0, 0, 32);
+    check_line_refused(25, 2, program, 4097, 5000, 31);
+    check_line_refused(1, SECOND_NEC, program, 4097, 5000, 31);
+    check_line_refused(1, SECOND_INTEL, program, 4097, 5000, 31);
+    check_line_refused(7, SECOND_INTEL, program, 4096, 5000, 31);
+    check_line_refused(7, SECOND_INTEL, program, 4096, 0, 0);
+    check_line_refused(5, SECOND_INTEL, program, 4096, 4096, 32);
+    check_line_refused(5, SECOND_INTEL, program, 4096, SIZE_MAX, 64);
+    check_line_refused(5, SECOND_INTEL, NULL, 0, 0, 32);
+    check_line_refused(25, UINT32_MAX, program, 4096, 0, 32);
 }
 
 static void listings(void)
@@ -2138,6 +2591,10 @@ static void listings(void)
     static uint8_t program[4097];
     static uint8_t text[4096 * SECOND_LINE_SIZE];
     size_t len = strlen(sample_text);
+
+    static const uint8_t nec[] = {0x01, 0x82};
+    check_text("the listing stays Intel", "000  01     DB 01H\n001  82     DB 82H\n", text,
+               second_listing(nec, sizeof nec, text, sizeof text));
 
     check_text("listing of document 01", sample_text, text,
                second_listing(sample, sizeof sample, text, len));
@@ -2205,12 +2662,15 @@ static uint8_t random_flag(void)
 static void random_bench(struct bench *b)
 {
     fresh(b);
+    b->set = random_flag() ? SECOND_NEC : SECOND_INTEL;
     b->program_len = (size_t)1024 << random_bits() % 3;
     b->ram_len = (size_t)64 << random_bits() % 3;
     for (size_t i = 0; i < b->program_len; i++) {
         b->program[i] = random_byte();
-        if (is_undefined(b->program[i]) && random_bits() % 16 != 0)
+        if (is_undefined(b->set, b->program[i]) && random_bits() % 16 != 0)
             b->program[i] = 0x00;
+        if (b->set == SECOND_NEC && random_bits() % 16 == 0)
+            b->program[i] = random_flag() ? 0x01 : 0x82;
     }
     for (size_t i = 0; i < sizeof b->ram; i++)
         b->ram[i] = random_byte();
@@ -2234,6 +2694,7 @@ static void random_bench(struct bench *b)
         .p2 = random_byte(),
         .bus = random_byte(),
         .bus_driven = random_flag(),
+        .mode = b->set == SECOND_NEC ? random_byte() & 3 : SECOND_MODE_RUNS,
     };
 }
 
@@ -2254,18 +2715,20 @@ static void random_runs(void)
             if (random_bits() % 8 != 0)
                 samples[i] |= SECOND_PIN_INT;
         }
-        struct second_totals totals =
-            second_run(b.program, b.program_len, b.ram, b.ram_len, &b.s, samples, samples_len);
+        struct second_totals totals = second_run(b.set, b.program, b.program_len, b.ram, b.ram_len,
+                                                 &b.s, samples, samples_len);
 
         size_t used = 0;
-        struct second_outcome outcome = {0, 0, 0, 0, 0};
+        uint64_t cycles = 0;
+        struct second_outcome outcome = {0};
         while (outcome.number == 0 && samples_len - used >= 2) {
             again.first = samples[used];
             again.second = samples[used + 1];
             again.want = again.s;
             memcpy(again.want_ram, again.ram, sizeof again.ram);
             outcome = just_step(&again);
-            used += outcome.cycles;
+            used += outcome.samples;
+            cycles += outcome.cycles;
         }
         if (outcome.number != 0) {
             check("random: only 4 or 5", 1, outcome.number == 4 || outcome.number == 5);
@@ -2274,7 +2737,7 @@ static void random_runs(void)
         }
         check("random: run's number", outcome.number, totals.number);
         check("random: run's samples", used, totals.samples);
-        check("random: run's cycles", used, (unsigned long)totals.cycles);
+        check("random: run's cycles", (unsigned long)cycles, (unsigned long)totals.cycles);
         check_state("random: run's state", &again.s, &b.s);
         check_bytes("random: run's RAM", again.ram, b.ram, sizeof b.ram);
     }
@@ -2285,9 +2748,13 @@ int main(void)
     bench_cases();
     power_up();
     refusals();
-    codes();
+    codes(SECOND_INTEL, 26, 164);
+    codes(SECOND_NEC, 24, 166);
     resets();
     interrupts();
+    entering();
+    waiting();
+    releasing();
     counting();
     jumps();
     tables();
@@ -2297,7 +2764,10 @@ int main(void)
     memory();
     ports();
     runs();
+    halted_runs();
     reader();
+    rewriter(SECOND_INTEL, 96);
+    rewriter(SECOND_NEC, 98);
     writer();
     lines();
     listings();

@@ -1,10 +1,10 @@
 /*
- * Second emulator of the Intel MCS-48 (8048, 8049, 8050): the second opinion that the
- * proved one is compared with.
+ * Second emulator of the Intel MCS-48 (8048, 8049, 8050) and of NEC's uPD80C49H: the
+ * second opinion that the proved one is compared with.
  *
- * Written from document 01 (the scope), item 3 of document 02 and our readings of both
- * alone, without a look at the Rattle sources; codes and spellings after data sheets 001
- * and 002.
+ * Written from document 01 (the scope), items 2 and 3 of document 02 and our readings of
+ * them alone, without a look at the Rattle sources; codes and spellings after data sheets
+ * 001 and 002, those of HALT and STOP after 000.
  *
  * No routine keeps anything between calls: what it works on is lent to it and nothing is
  * allocated. A pointer may be null only where the length that goes with it is 0.
@@ -15,7 +15,7 @@
 #include <stddef.h>
 #include <stdint.h>
 
-/* The numbers of document 01; 0 means accepted. */
+/* The numbers of document 01, and our own for a set; 0 means accepted. */
 enum second_number {
     SECOND_ACCEPTED = 0,
     SECOND_PROGRAM_LENGTH = 1,
@@ -25,8 +25,15 @@ enum second_number {
     SECOND_PAST_END = 5,
     SECOND_SAMPLE_BITS = 6,
     SECOND_LINE_BUFFER = 7,
-    SECOND_OPERAND = 23
+    SECOND_OPERAND = 23,
+    SECOND_SET_UNKNOWN = 25
 };
+
+/*
+ * The set of instructions, which the caller names: Intel's 96, or with NEC's HALT and STOP
+ * 98. Any other is number 25, given before all others.
+ */
+enum second_set { SECOND_INTEL = 0, SECOND_NEC = 1 };
 
 /* A pin sample: the levels in one machine cycle. Bits 28 to 31 are 0. */
 #define SECOND_PIN_BUS_SHIFT 0
@@ -41,9 +48,18 @@ enum second_number {
 
 enum second_counting { SECOND_STOPPED, SECOND_TIMER, SECOND_COUNTER };
 
+/* Whether it runs; "released" is just released by INT. */
+enum second_mode {
+    SECOND_MODE_RUNS,
+    SECOND_MODE_HALTED,
+    SECOND_MODE_STOPPED,
+    SECOND_MODE_RELEASED
+};
+
 /*
  * The machine state. Flags are 0 or 1. A flag above 1, counting above 2, pc above 4095,
- * divider above 31 or PSW bit 3 clear is outside its sizes (number 3).
+ * divider above 31, mode above 3, for Intel above 0, or PSW bit 3 clear is outside its
+ * sizes (number 3).
  */
 struct second_state {
     uint8_t a;
@@ -65,6 +81,7 @@ struct second_state {
     uint8_t p2;
     uint8_t bus;
     uint8_t bus_driven;
+    uint8_t mode; /* enum second_mode */
 };
 
 enum second_event_kind {
@@ -80,7 +97,8 @@ enum second_event_kind {
 /* What a step returns. Refused: the number, and 0 in all the rest. */
 struct second_outcome {
     uint8_t number;
-    uint8_t cycles;
+    uint8_t cycles;  /* machine cycles */
+    uint8_t samples; /* used: 1 of a halted or stopped step, else as many as cycles */
     uint8_t event;   /* enum second_event_kind */
     uint8_t address; /* MOVX address, or port 4 to 7 */
     uint8_t data;    /* MOVX data written, or A's low digit before; else 0 */
@@ -90,14 +108,14 @@ struct second_outcome {
 void second_power_up(struct second_state *state);
 
 /*
- * One step: a reset, an interrupt call or an instruction. `first` and `second` are the
- * samples of its first and second cycle; both are looked at for number 6, even if the
- * step takes one cycle. Numbers 1, 2, 3, 6, then 5, 4, 5. Accepted, it changes state and
- * RAM in place; refused, it touches nothing.
+ * One step: a reset, the wait of a halted or stopped machine, an interrupt call or an
+ * instruction. `first` and `second` are the samples of its first and second cycle; both
+ * are looked at for number 6, even if the step uses one. Numbers 25, 1, 2, 3, 6, then 5,
+ * 4, 5. Accepted, it changes state and RAM in place; refused, it touches nothing.
  */
-struct second_outcome second_step(const uint8_t *program, size_t program_len, uint8_t *ram,
-                                  size_t ram_len, struct second_state *state, uint32_t first,
-                                  uint32_t second);
+struct second_outcome second_step(uint32_t set, const uint8_t *program, size_t program_len,
+                                  uint8_t *ram, size_t ram_len, struct second_state *state,
+                                  uint32_t first, uint32_t second);
 
 struct second_totals {
     uint8_t number; /* of the step refused, or 0 if the samples ran out */
@@ -107,13 +125,13 @@ struct second_totals {
 
 /*
  * Steps while two samples remain, or until a refusal; steps done before it stand. With
- * 0 or 1 sample it checks 1, 2 and 3 and does nothing.
+ * 0 or 1 sample it checks 25, 1, 2 and 3 and does nothing.
  */
-struct second_totals second_run(const uint8_t *program, size_t program_len, uint8_t *ram,
-                                size_t ram_len, struct second_state *state, const uint32_t *samples,
-                                size_t samples_len);
+struct second_totals second_run(uint32_t set, const uint8_t *program, size_t program_len,
+                                uint8_t *ram, size_t ram_len, struct second_state *state,
+                                const uint32_t *samples, size_t samples_len);
 
-/* The 96 instructions. R is a register, AT_R the cell it points at, P a port. */
+/* The 96 instructions and NEC's two. R is a register, AT_R the cell it points at, P a port. */
 enum second_operation {
     SECOND_NOP,
     /* accumulator */
@@ -219,10 +237,13 @@ enum second_operation {
     SECOND_SEL_RB1,
     SECOND_SEL_MB0,
     SECOND_SEL_MB1,
-    SECOND_ENT0_CLK
+    SECOND_ENT0_CLK,
+    /* NEC alone */
+    SECOND_HALT,
+    SECOND_STOP
 };
 
-enum { SECOND_OPERATIONS = SECOND_ENT0_CLK + 1 };
+enum { SECOND_OPERATIONS = SECOND_STOP + 1 };
 
 /*
  * An instruction. The operands are wider than a code can hold, so that the writer has
@@ -248,9 +269,10 @@ struct second_reading {
 
 /*
  * The instruction at an address of a program of 0 to 4,096 bytes. A second byte is at
- * the next PC, which wraps as in a step. Numbers 1, 5, 4, 5.
+ * the next PC, which wraps as in a step. Numbers 25, 1, 5, 4, 5.
  */
-struct second_reading second_read(const uint8_t *program, size_t program_len, size_t address);
+struct second_reading second_read(uint32_t set, const uint8_t *program, size_t program_len,
+                                  size_t address);
 
 /* What the writer returns. Bytes not used are 0. */
 struct second_written {
@@ -260,10 +282,10 @@ struct second_written {
 };
 
 /*
- * The code of an instruction; number 23 and length 0 if one of its operands doesn't fit,
- * or if the operation is none of the 96.
+ * The code of an instruction. Refused with length 0: 25 first; 23 if one of its operands
+ * doesn't fit, or if the operation is none of the 98; 4 for HALT and STOP under Intel.
  */
-struct second_written second_write(const struct second_instruction *instruction);
+struct second_written second_write(uint32_t set, const struct second_instruction *instruction);
 
 /* A line buffer must have at least this many bytes. */
 enum { SECOND_LINE_SIZE = 32 };
@@ -275,18 +297,18 @@ struct second_line {
 };
 
 /*
- * One line of the listing, ended by LF, of a program of 0 to 4,096 bytes. Numbers 1, 7, 5.
- * Refused, it leaves the buffer alone and returns the number and 0 in the rest; accepted,
- * it touches nothing past the LF.
+ * One line of the listing, ended by LF, of a program of 0 to 4,096 bytes. Numbers 25, 1,
+ * 7, 5. Refused, it leaves the buffer alone and returns the number and 0 in the rest;
+ * accepted, it touches nothing past the LF.
  */
-struct second_line second_line(const uint8_t *program, size_t program_len, size_t address,
-                               uint8_t *line, size_t line_len);
+struct second_line second_line(uint32_t set, const uint8_t *program, size_t program_len,
+                               size_t address, uint8_t *line, size_t line_len);
 
 /*
- * The whole listing as the list program prints it, `refused 1` and LF for a program above
- * 4,096 bytes. Returns the bytes written, or 0 if text_len is too small; the text is then
- * of no use. SECOND_LINE_SIZE bytes for each of the program's, and never less than one
- * SECOND_LINE_SIZE, are always enough.
+ * The whole listing as the list program prints it, for Intel ("the listing program stays
+ * Intel"), `refused 1` and LF for a program above 4,096 bytes. Returns the bytes written,
+ * or 0 if text_len is too small; the text is then of no use. SECOND_LINE_SIZE bytes for
+ * each of the program's, and never less than one SECOND_LINE_SIZE, are always enough.
  */
 size_t second_listing(const uint8_t *program, size_t program_len, uint8_t *text, size_t text_len);
 

@@ -1,17 +1,19 @@
 /*
  * Second emulator of the MCS-48: the table of the 256 first bytes.
  *
- * Written from document 01 (the scope) and our readings of it alone, without a look at
- * the Rattle sources; the codes after data sheets 001 and 002. Where their cycles differ
- * from document 01 (OUTL, MOVD, ORLD), these are document 01's.
+ * Written from document 01 (the scope), item 2 of document 02 and our readings of both
+ * alone, without a look at the Rattle sources; the codes after data sheets 001 and 002,
+ * those of HALT and STOP after 000. Where their cycles differ from document 01 (OUTL,
+ * MOVD, ORLD), these are document 01's.
  */
 #include "second_codes.h"
 
 /* clang-format off */
-#define ONE(name) {SECOND_##name, 1, 1}      /* one byte, one cycle */
-#define ONE_SLOW(name) {SECOND_##name, 1, 2} /* one byte, two cycles */
-#define TWO(name) {SECOND_##name, 2, 2}      /* two bytes, two cycles */
-#define NONE {SECOND_NOP, 0, 0}              /* undefined */
+#define ONE(name) {SECOND_##name, 1, 1, false}      /* one byte, one cycle */
+#define ONE_SLOW(name) {SECOND_##name, 1, 2, false} /* one byte, two cycles */
+#define TWO(name) {SECOND_##name, 2, 2, false}      /* two bytes, two cycles */
+#define ONE_NEC(name) {SECOND_##name, 1, 1, true}   /* one byte, one cycle, undefined for Intel */
+#define NONE {SECOND_NOP, 0, 0, false}              /* undefined */
 
 #define X2(...) __VA_ARGS__, __VA_ARGS__
 #define X4(...) X2(__VA_ARGS__), X2(__VA_ARGS__)
@@ -19,7 +21,7 @@
 
 /* Laid out as the code table of data sheet 002, half a row to a group. */
 const struct second_code second_codes[256] = {
-    [0x00] = ONE(NOP), NONE, ONE_SLOW(OUTL_BUS_A), TWO(ADD_A_DATA),
+    [0x00] = ONE(NOP), ONE_NEC(HALT), ONE_SLOW(OUTL_BUS_A), TWO(ADD_A_DATA),
              TWO(JMP), ONE(EN_I), NONE, ONE(DEC_A),
     [0x08] = ONE_SLOW(INS_A_BUS), X2(ONE_SLOW(IN_A_P)), NONE, X4(ONE_SLOW(MOVD_A_P)),
     [0x10] = X2(ONE(INC_AT_R)), TWO(JB), TWO(ADDC_A_DATA),
@@ -43,7 +45,7 @@ const struct second_code second_codes[256] = {
     [0x70] = X2(ONE(ADDC_A_AT_R)), TWO(JB), NONE,
              TWO(CALL), ONE(ENT0_CLK), TWO(JF1), ONE(RR_A),
     [0x78] = X8(ONE(ADDC_A_R)),
-    [0x80] = X2(ONE_SLOW(MOVX_A_AT_R)), NONE, ONE_SLOW(RET),
+    [0x80] = X2(ONE_SLOW(MOVX_A_AT_R)), ONE_NEC(STOP), ONE_SLOW(RET),
              TWO(JMP), ONE(CLR_F0), TWO(JNI), NONE,
     [0x88] = TWO(ORL_BUS_DATA), X2(TWO(ORL_P_DATA)), NONE, X4(ONE_SLOW(ORLD_P_A)),
     [0x90] = X2(ONE_SLOW(MOVX_AT_R_A)), TWO(JB), ONE_SLOW(RETR),

@@ -1,8 +1,8 @@
 /*
  * Second emulator of the MCS-48: power-up, the step and the run.
  *
- * Written from document 01 (the scope), item 3 of document 02 and our readings of both
- * alone, without a look at the Rattle sources.
+ * Written from document 01 (the scope), items 2 and 3 of document 02 and our readings of
+ * them alone, without a look at the Rattle sources.
  */
 #include "second.h"
 #include "second_codes.h"
@@ -237,7 +237,14 @@ static void tell_expander(struct second_outcome *outcome, enum second_event_kind
     tell(outcome, event, code & 7, a & 0xF);
 }
 
-/* What a step can be: each fills in cycles and event of an outcome that is all 0. */
+/* What a step can be: each fills in cycles, samples and event of an outcome that is all 0. */
+
+/* Each machine cycle uses one sample. */
+static void spend(struct second_outcome *outcome, uint8_t cycles)
+{
+    outcome->cycles = cycles;
+    outcome->samples = cycles;
+}
 
 /* A, C, AC, T, the divider, the BUS latch and RAM stay. */
 static void reset(struct second_state *s, uint32_t first, struct second_outcome *outcome)
@@ -256,8 +263,20 @@ static void reset(struct second_state *s, uint32_t first, struct second_outcome 
     s->p2 = 0xFF;
     s->bus_driven = 0;
     s->counting = SECOND_STOPPED;
+    s->mode = SECOND_MODE_RUNS;
     remember_t1(s, first);
-    outcome->cycles = 1;
+    spend(outcome, 1);
+}
+
+/*
+ * A halted or stopped machine: "one sample and no machine cycle, so nothing is counted and
+ * T1 isn't remembered" (02, item 2).
+ */
+static void stand_by(struct second_state *s, uint32_t first, struct second_outcome *outcome)
+{
+    if (!pin_high(first, SECOND_PIN_INT))
+        s->mode = SECOND_MODE_RELEASED;
+    outcome->samples = 1;
 }
 
 static void interrupt(struct second_state *s, uint8_t *ram, uint16_t vector, uint32_t first,
@@ -267,24 +286,34 @@ static void interrupt(struct second_state *s, uint8_t *ram, uint16_t vector, uin
     s->pc = vector;
     s->in_service = 1;
     count_cycles(s, 2, first, second);
-    outcome->cycles = 2;
+    spend(outcome, 2);
 }
 
-static enum second_number instruct(const uint8_t *program, size_t program_len, uint8_t *ram,
-                                   size_t ram_len, struct second_state *s, uint32_t first,
-                                   uint32_t second, struct second_outcome *outcome)
+/*
+ * "HALT carried out with INT low in the first sample isn't entered; for STOP we choose the
+ * same" (02, item 2).
+ */
+static uint8_t mode_entered(enum second_mode mode, uint32_t first)
+{
+    return (uint8_t)(pin_high(first, SECOND_PIN_INT) ? mode : SECOND_MODE_RUNS);
+}
+
+static enum second_number instruct(uint32_t set, const uint8_t *program, size_t program_len,
+                                   uint8_t *ram, size_t ram_len, struct second_state *s,
+                                   uint32_t first, uint32_t second, struct second_outcome *outcome)
 {
     uint16_t at = s->pc;
     uint16_t next = second_next_pc(at);
     uint8_t operand = 0; /* the second byte */
     bool counted = true;
+    uint8_t mode = SECOND_MODE_RUNS; /* "released" ends with the instruction */
 
     /* Refusals come before any change, those of a table byte further down too. */
     if (at >= program_len)
         return SECOND_PAST_END;
     uint8_t code = program[at];
     const struct second_code *entry = &second_codes[code];
-    if (entry->length == 0)
+    if (!second_defined(set, entry))
         return SECOND_UNDEFINED_CODE;
     if (entry->length == 2) {
         if (next >= program_len)
@@ -646,29 +675,45 @@ static enum second_number instruct(const uint8_t *program, size_t program_len, u
     case SECOND_ENT0_CLK:
         s->t0_clock = 1;
         break;
+
+    case SECOND_HALT:
+        mode = mode_entered(SECOND_MODE_HALTED, first);
+        break;
+    case SECOND_STOP:
+        mode = mode_entered(SECOND_MODE_STOPPED, first);
+        break;
     }
 
     s->pc = next;
+    s->mode = mode;
     if (counted)
         count_cycles(s, entry->cycles, first, second);
     else
         remember_t1(s, first);
-    outcome->cycles = entry->cycles;
+    spend(outcome, entry->cycles);
     return SECOND_ACCEPTED;
 }
 
-/* A step with lengths and state known to be good. */
-static enum second_number step(const uint8_t *program, size_t program_len, uint8_t *ram,
-                               size_t ram_len, struct second_state *s, uint32_t first,
+/* A step with set, lengths and state known to be good. */
+static enum second_number step(uint32_t set, const uint8_t *program, size_t program_len,
+                               uint8_t *ram, size_t ram_len, struct second_state *s, uint32_t first,
                                uint32_t second, struct second_outcome *outcome)
 {
+    bool waits = s->mode == SECOND_MODE_HALTED || s->mode == SECOND_MODE_STOPPED;
+    bool released = s->mode == SECOND_MODE_RELEASED;
+
     if ((first | second) & SECOND_PIN_NONE)
         return SECOND_SAMPLE_BITS;
     if (!pin_high(first, SECOND_PIN_RESET)) {
         reset(s, first, outcome);
         return SECOND_ACCEPTED;
     }
-    if (!s->in_service) {
+    if (waits) {
+        stand_by(s, first, outcome);
+        return SECOND_ACCEPTED;
+    }
+    /* "After a release by INT one instruction runs before an interrupt may be called." */
+    if (!s->in_service && !released) {
         if (s->external_enabled && !pin_high(first, SECOND_PIN_INT)) {
             interrupt(s, ram, VECTOR_EXTERNAL, first, second, outcome);
             return SECOND_ACCEPTED;
@@ -679,57 +724,63 @@ static enum second_number step(const uint8_t *program, size_t program_len, uint8
             return SECOND_ACCEPTED;
         }
     }
-    return instruct(program, program_len, ram, ram_len, s, first, second, outcome);
+    return instruct(set, program, program_len, ram, ram_len, s, first, second, outcome);
 }
 
 /* Checks that need no sample. A step keeps what they establish, so a run needs them once. */
 
-static bool state_in_sizes(const struct second_state *s)
+static bool state_in_sizes(uint32_t set, const struct second_state *s)
 {
+    uint8_t last_mode = set == SECOND_NEC ? SECOND_MODE_RELEASED : SECOND_MODE_RUNS;
+
     return s->pc < PROGRAM_MAX && s->divider < 32 && s->counting <= SECOND_COUNTER &&
            (s->psw & PSW_ONE) && s->f1 <= 1 && s->dbf <= 1 && s->tf <= 1 && s->request <= 1 &&
            s->external_enabled <= 1 && s->timer_enabled <= 1 && s->in_service <= 1 &&
-           s->last_t1 <= 1 && s->t0_clock <= 1 && s->bus_driven <= 1;
+           s->last_t1 <= 1 && s->t0_clock <= 1 && s->bus_driven <= 1 && s->mode <= last_mode;
 }
 
-static enum second_number check(size_t program_len, size_t ram_len, const struct second_state *s)
+static enum second_number check(uint32_t set, size_t program_len, size_t ram_len,
+                                const struct second_state *s)
 {
+    if (!second_set_known(set))
+        return SECOND_SET_UNKNOWN;
     if (program_len != 1024 && program_len != 2048 && program_len != PROGRAM_MAX)
         return SECOND_PROGRAM_LENGTH;
     if (ram_len != 64 && ram_len != 128 && ram_len != 256)
         return SECOND_RAM_LENGTH;
-    if (!state_in_sizes(s))
+    if (!state_in_sizes(set, s))
         return SECOND_STATE_SIZES;
     return SECOND_ACCEPTED;
 }
 
-struct second_outcome second_step(const uint8_t *program, size_t program_len, uint8_t *ram,
-                                  size_t ram_len, struct second_state *state, uint32_t first,
-                                  uint32_t second)
+struct second_outcome second_step(uint32_t set, const uint8_t *program, size_t program_len,
+                                  uint8_t *ram, size_t ram_len, struct second_state *state,
+                                  uint32_t first, uint32_t second)
 {
     struct second_outcome outcome = {0};
-    enum second_number number = check(program_len, ram_len, state);
+    enum second_number number = check(set, program_len, ram_len, state);
 
     if (number == SECOND_ACCEPTED)
-        number = step(program, program_len, ram, ram_len, state, first, second, &outcome);
+        number = step(set, program, program_len, ram, ram_len, state, first, second, &outcome);
     outcome.number = (uint8_t)number;
     return outcome;
 }
 
-struct second_totals second_run(const uint8_t *program, size_t program_len, uint8_t *ram,
-                                size_t ram_len, struct second_state *state, const uint32_t *samples,
-                                size_t samples_len)
+struct second_totals second_run(uint32_t set, const uint8_t *program, size_t program_len,
+                                uint8_t *ram, size_t ram_len, struct second_state *state,
+                                const uint32_t *samples, size_t samples_len)
 {
-    enum second_number number = check(program_len, ram_len, state);
+    enum second_number number = check(set, program_len, ram_len, state);
     size_t used = 0;
+    uint64_t cycles = 0;
 
     while (number == SECOND_ACCEPTED && samples_len - used >= 2) {
         struct second_outcome outcome = {0};
 
-        number = step(program, program_len, ram, ram_len, state, samples[used], samples[used + 1],
-                      &outcome);
-        used += outcome.cycles;
+        number = step(set, program, program_len, ram, ram_len, state, samples[used],
+                      samples[used + 1], &outcome);
+        used += outcome.samples;
+        cycles += outcome.cycles;
     }
-    /* Each cycle uses one sample. */
-    return (struct second_totals){.number = (uint8_t)number, .samples = used, .cycles = used};
+    return (struct second_totals){.number = (uint8_t)number, .samples = used, .cycles = cycles};
 }

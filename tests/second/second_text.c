@@ -2,9 +2,9 @@
  * Second emulator of the MCS-48: the instruction reader, the instruction writer and the
  * listing.
  *
- * Written from document 01 (the scope), item 3 of document 02 and our readings of both
- * alone, without a look at the Rattle sources; codes and spellings after data sheets 001
- * and 002.
+ * Written from document 01 (the scope), items 2 and 3 of document 02 and our readings of
+ * them alone, without a look at the Rattle sources; codes and spellings after data sheets
+ * 001 and 002, those of HALT and STOP after 000.
  */
 #include "second.h"
 #include "second_codes.h"
@@ -143,6 +143,9 @@ static const struct form forms[SECOND_OPERATIONS] = {
     [SECOND_SEL_MB0] = {"SEL MB0", 0xE5, NO_OPERAND, NO_TAIL},
     [SECOND_SEL_MB1] = {"SEL MB1", 0xF5, NO_OPERAND, NO_TAIL},
     [SECOND_ENT0_CLK] = {"ENT0 CLK", 0x75, NO_OPERAND, NO_TAIL},
+
+    [SECOND_HALT] = {"HALT", 0x01, NO_OPERAND, NO_TAIL},
+    [SECOND_STOP] = {"STOP", 0x82, NO_OPERAND, NO_TAIL},
 };
 
 /* The reader. */
@@ -193,8 +196,11 @@ static struct second_reading unreadable(enum second_number number)
     return (struct second_reading){.number = (uint8_t)number};
 }
 
-struct second_reading second_read(const uint8_t *program, size_t program_len, size_t address)
+struct second_reading second_read(uint32_t set, const uint8_t *program, size_t program_len,
+                                  size_t address)
 {
+    if (!second_set_known(set))
+        return unreadable(SECOND_SET_UNKNOWN);
     if (program_len > PROGRAM_MAX)
         return unreadable(SECOND_PROGRAM_LENGTH);
     if (address >= program_len)
@@ -202,7 +208,7 @@ struct second_reading second_read(const uint8_t *program, size_t program_len, si
 
     uint8_t code = program[address];
     const struct second_code *entry = &second_codes[code];
-    if (entry->length == 0)
+    if (!second_defined(set, entry))
         return unreadable(SECOND_UNDEFINED_CODE);
 
     uint8_t operand = 0;
@@ -255,16 +261,24 @@ static bool tail_fits(enum tail tail, const struct second_instruction *i)
     return true;
 }
 
-struct second_written second_write(const struct second_instruction *instruction)
+static struct second_written unwritten(enum second_number number)
 {
-    const struct second_written refused = {SECOND_OPERAND, 0, {0, 0}};
+    return (struct second_written){.number = (uint8_t)number};
+}
+
+struct second_written second_write(uint32_t set, const struct second_instruction *instruction)
+{
     const struct second_instruction *i = instruction;
 
+    if (!second_set_known(set))
+        return unwritten(SECOND_SET_UNKNOWN);
     if ((unsigned)i->operation >= SECOND_OPERATIONS)
-        return refused;
+        return unwritten(SECOND_OPERAND);
     const struct form *form = &forms[i->operation];
     if (!operand_fits(form->operand, i) || !tail_fits(form->tail, i))
-        return refused;
+        return unwritten(SECOND_OPERAND);
+    if (set == SECOND_INTEL && (i->operation == SECOND_HALT || i->operation == SECOND_STOP))
+        return unwritten(SECOND_UNDEFINED_CODE);
 
     unsigned code = form->code;
     switch (form->operand) {
@@ -378,9 +392,11 @@ static uint8_t *put_instruction(uint8_t *to, const struct second_instruction *i,
     return to;
 }
 
-struct second_line second_line(const uint8_t *program, size_t program_len, size_t address,
-                               uint8_t *line, size_t line_len)
+struct second_line second_line(uint32_t set, const uint8_t *program, size_t program_len,
+                               size_t address, uint8_t *line, size_t line_len)
 {
+    if (!second_set_known(set))
+        return (struct second_line){.number = SECOND_SET_UNKNOWN};
     if (program_len > PROGRAM_MAX)
         return (struct second_line){.number = SECOND_PROGRAM_LENGTH};
     if (line_len < SECOND_LINE_SIZE)
@@ -389,7 +405,7 @@ struct second_line second_line(const uint8_t *program, size_t program_len, size_
         return (struct second_line){.number = SECOND_PAST_END};
 
     /* The reader wraps at 7FF and FFF; the listing shows DB there. */
-    struct second_reading reading = second_read(program, program_len, address);
+    struct second_reading reading = second_read(set, program, program_len, address);
     bool wraps = reading.length == 2 && (address & PC_COUNTED) == PC_COUNTED;
     bool readable = reading.number == SECOND_ACCEPTED && !wraps;
 
@@ -430,7 +446,8 @@ size_t second_listing(const uint8_t *program, size_t program_len, uint8_t *text,
     }
     for (size_t address = 0; address < program_len;) {
         uint8_t line[SECOND_LINE_SIZE];
-        struct second_line listed = second_line(program, program_len, address, line, sizeof line);
+        struct second_line listed =
+            second_line(SECOND_INTEL, program, program_len, address, line, sizeof line);
 
         if (listed.written > text_len - used)
             return 0;

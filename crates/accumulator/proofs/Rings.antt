@@ -101,7 +101,7 @@ pub ring-law :
     {ring : Ring} {string instead : List Rotate} {m n : ℕ} → TurnsBy ring string m → TurnsBy ring instead n
     → m % bits ring ≡ n % bits ring → Holds (law string (length string) instead (length instead))
 ring-law {string = string} {instead = instead} t u e =
-    record { same = same-places t u e; cycles = cycles-bytes string; instead-cycles = cycles-bytes instead }
+    record { same = same-places t u e; cycles = λ set. cycles-bytes set string; instead-cycles = λ set. cycles-bytes set instead }
 
 -- Five RL, or three RR: 5 places, and 21, which is 5 and twice 8.
 pub five-rl : Holds (law (replicate 5 Rl) 5 (replicate 3 Rr) 3)

@@ -7,7 +7,10 @@ use native.Mathlib.Omega.{arith}
 use lib.ListN.{length, replicate, length-append, length-replicate}
 use Rattle.isa.specs.Choice.{pick, listed}
 use Rattle.isa.specs.Sheet.{entryOf, kindOf}
+use Rattle.isa.specs.declared.Set.{Set}
+use Rattle.isa.specs.declared.Set.the-variants.{Intel}
 use Rattle.isa.proofs.Everywhere.{everywhere}
+use Rattle.isa.proofs.Sets.{shared}
 use Rattle.machine.specs.Psw.{bitC, withC}
 use Rattle.machine.specs.State.{powerUp, withCore}
 use Rattle.machine.specs.declared.State.{State}
@@ -16,18 +19,23 @@ use Rattle.accumulator.specs.Rotates.{Rotate, Rl, Rlc, Rr, Rrc, Swap, No
 
 -- ---- what the sheet says
 -- Each has one byte and takes one cycle; so a string takes as many cycles as it has bytes.
-pub one-each : (r : Rotate) → (entryOf (codeOf r) .bytes ≡ 1) × (entryOf (codeOf r) .cycles ≡ 1)
-unfolding entryOf kindOf pick
-one-each Rl = (refl, refl)
-one-each Rlc = (refl, refl)
-one-each Rr = (refl, refl)
-one-each Rrc = (refl, refl)
-one-each Swap = (refl, refl)
-one-each Nop = (refl, refl)
+-- It is enough to look at Intel's set: NEC's has what Intel's has.
+by-intel :
+    (set : Set) (b : ℕ) → (entryOf Intel b .bytes ≡ 1) × (entryOf Intel b .cycles ≡ 1) → (entryOf set b .bytes ≡ 1) × (entryOf set b .cycles ≡ 1)
+by-intel set b h = rw (shared set b (rw (h .0))) h
 
-pub cycles-bytes : (rs : List Rotate) → cyclesOf rs ≡ length rs
-cycles-bytes [] = refl
-cycles-bytes (r ∷ rs) = rw (one-each r .1, cycles-bytes rs) (omega arith)
+pub one-each : (set : Set) (r : Rotate) → (entryOf set (codeOf r) .bytes ≡ 1) × (entryOf set (codeOf r) .cycles ≡ 1)
+unfolding entryOf kindOf pick
+one-each set Rl = by-intel set 0xE7 (refl, refl)
+one-each set Rlc = by-intel set 0xF7 (refl, refl)
+one-each set Rr = by-intel set 0x77 (refl, refl)
+one-each set Rrc = by-intel set 0x67 (refl, refl)
+one-each set Swap = by-intel set 0x47 (refl, refl)
+one-each set Nop = by-intel set 0x00 (refl, refl)
+
+pub cycles-bytes : (set : Set) (rs : List Rotate) → cyclesOf set rs ≡ length rs
+cycles-bytes set [] = refl
+cycles-bytes set (r ∷ rs) = rw (one-each set r .1, cycles-bytes set rs) (omega arith)
 
 -- ---- which way each turns
 -- The state after power-up with other A and C.
@@ -100,7 +108,7 @@ record Facts : Type 0 where
 
 abbrev found : Law → Facts
 found l =
-    record { states = listed (left (l .string)) 512 0; cycles = cyclesOf (l .string); instead-cycles = cyclesOf (l .instead) }
+    record { states = listed (left (l .string)) 512 0; cycles = length (l .string); instead-cycles = length (l .instead) }
 
 abbrev told : Law → Facts
 told l = record { states = listed (left (l .instead)) 512 0; cycles = l .cycles; instead-cycles = l .instead-cycles }
@@ -109,8 +117,8 @@ holds : (l : Law) → found l ≡ told l → Holds l
 holds l e =
     record {
       same = same-by-values (l .string) (l .instead) (ap (λ (f : Facts). f .states) e);
-      cycles = ap (λ (f : Facts). f .cycles) e;
-      instead-cycles = ap (λ (f : Facts). f .instead-cycles) e;
+      cycles = λ set. cycles-bytes set (l .string) ∙ ap (λ (f : Facts). f .cycles) e;
+      instead-cycles = λ set. cycles-bytes set (l .instead) ∙ ap (λ (f : Facts). f .instead-cycles) e;
     }
 
 all-hold : (ls : List Law) → map found ls ≡ map told ls → AllHold ls
@@ -118,7 +126,7 @@ all-hold [] e = tt
 all-hold (l ∷ ls) e = (holds l (cc), all-hold ls (cc))
 
 pub laws-hold : AllHold laws
-unfolding entryOf kindOf pick
+unfolding pick
 laws-hold = all-hold laws refl
 
 -- ---- filled up with NOP
@@ -143,5 +151,5 @@ filled-holds l h le =
           ∙ sym (rotated-append (l .instead) (replicate (length (l .string) - length (l .instead)) Nop) s);
       cycles = h .cycles;
       instead-cycles =
-          cycles-bytes (fill l .instead) ∙ sym (filled-length l le) ∙ sym (cycles-bytes (l .string)) ∙ h .cycles;
+          λ set. cycles-bytes set (fill l .instead) ∙ sym (filled-length l le) ∙ sym (cycles-bytes set (l .string)) ∙ h .cycles set;
     }

@@ -5,6 +5,7 @@ use mathlib.Core.List.{List, [], _∷_, _++_}
 use mathlib.Core.Path.{_≡_}
 use lib.ListN.{length, replicate}
 use Rattle.isa.specs.Sheet.{entryOf}
+use Rattle.isa.specs.declared.Set.{Set}
 use Rattle.isa.specs.declared.Unary.the-variants.{RlA, RlcA, RrA, RrcA, SwapA}
 use Rattle.machine.specs.declared.State.{State}
 use Rattle.accumulator.specs.Accumulator.{changed}
@@ -63,10 +64,10 @@ abbrev pub rotated : List Rotate → State → State
 rotated [] s = s
 rotated (r ∷ rs) s = rotated rs (turned r s)
 
--- The machine cycles of a string, by the sheet.
-abbrev pub cyclesOf : List Rotate → ℕ
-cyclesOf [] = 0
-cyclesOf (r ∷ rs) = entryOf (codeOf r) .cycles + cyclesOf rs
+-- The machine cycles of a string in a set, by the sheet.
+abbrev pub cyclesOf : Set → List Rotate → ℕ
+cyclesOf set [] = 0
+cyclesOf set (r ∷ rs) = entryOf set (codeOf r) .cycles + cyclesOf set rs
 
 -- A string and its cycles, and the string that may stand instead of it and the cycles of that.
 pub record Law : Type 0 where
@@ -103,11 +104,11 @@ fill l = law (l .string) (l .cycles) (l .instead ++ replicate (length (l .string
 abbrev pub Same : List Rotate → List Rotate → Type 0
 Same string instead = (s : State) → s .a < 256 → s .psw < 256 → rotated string s ≡ rotated instead s
 
--- A law holds: of A and C for all values, and of the cycles.
+-- A law holds: of A and C for all values, and of the cycles in either set.
 pub record Holds (l : Law) : Type 0 where
   pub same : Same (l .string) (l .instead)
-  pub cycles : cyclesOf (l .string) ≡ l .cycles
-  pub instead-cycles : cyclesOf (l .instead) ≡ l .instead-cycles
+  pub cycles : (set : Set) → cyclesOf set (l .string) ≡ l .cycles
+  pub instead-cycles : (set : Set) → cyclesOf set (l .instead) ≡ l .instead-cycles
 
 abbrev pub AllHold : List Law → Type 0
 AllHold [] = Unit {0}

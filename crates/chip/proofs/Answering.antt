@@ -9,19 +9,25 @@ use native.Mathlib.Omega.{arith}
 use lib.Dec.{eqb}
 use lib.ListN.{set}
 use borrow.Author.Tests.{eqb-true, eqb-false, not-true}
+use Rattle.isa.specs.Reading.{Program}
+use Rattle.isa.specs.Sets.{Standby}
+use Rattle.isa.specs.declared.Instruction.{Instruction}
+use Rattle.machine.specs.Mode.{isRunning, isWaiting}
 use Rattle.machine.specs.Pins.{intPin, resetPin, isLow}
 use Rattle.machine.specs.State.{countOf}
 use Rattle.machine.specs.declared.Count.{Count}
+use Rattle.machine.specs.declared.Mode.the-variants.{Running}
 use Rattle.machine.specs.declared.State.{State}
 use Rattle.machine.proofs.Timing.{request-stays, tf-stays}
 use Rattle.machine.specs.Psw.{sp}
 use Rattle.effects.specs.Effect.{Write, Pair, written}
 use Rattle.flow.specs.Stack.{pushed}
-use Rattle.chip.specs.History.{Cycle, afterwards, Overflowing, firstCycle, secondCycle, courseAt, planAt, after, Steps, more, cycle, Undisturbed, AllUndisturbed, CallTo7, overflowCycle}
+use Rattle.chip.specs.History.{Cycle, afterwards, Overflowing, firstCycle, secondCycle, courseAt, planAt, after, Steps, more, cycle, CarriesOut, Undisturbed, AllUndisturbed, CallTo7, overflowCycle}
 use Rattle.chip.specs.Run.{Progress}
 use Rattle.chip.specs.Step.{Course, declined, accepted, called, withoutRequest, externalCalls, timerCalls, course, settled}
 use Rattle.chip.proofs.Choices.{either}
-use Rattle.chip.proofs.Cycles.{Counts, Running, plan-write, cycle-first, cycle-second, count-law, one-or-two, accepted-course, is-settled, same-cycles, ends-first, ends-second, ends-enabled, first-counts, second-counts}
+use Rattle.chip.proofs.Cycles.{Counts, Running as Going, plan-write, cycle-first, cycle-second, count-law, two-at-most, accepted-course, is-settled, same-cycles, same-used, ends-first, ends-second, ends-enabled, first-counts, second-counts}
+use Rattle.chip.proofs.Modes.{runs-after}
 use Rattle.chip.proofs.Overflows.{overflowing, calm, first-hit}
 
 first-enabled : (c : Course) (first : ℕ) → firstCycle c first .enabled ≡ c .state .interrupts .tcnti
@@ -38,7 +44,7 @@ second-before c first second = refl
 
 -- The timer interrupt is enabled in a step's cycles exactly if it is after the step.
 pub step-enabled :
-    {program ram : List ℕ} {s : State} {k : Progress} (first second : ℕ) (h : Steps program ram s k) (a : planAt program k first second .number ≡ 0)
+    {program : Program} {ram : List ℕ} {s : State} {k : Progress} (first second : ℕ) (h : Steps program ram s k) (a : planAt program k first second .number ≡ 0)
     (i : ℕ) → k .cycles < i → cycle (more first second h a) i .enabled ≡ after program k first second .state .interrupts .tcnti
 step-enabled {program} {k = k} first second h a i b = go (eqb i (k .cycles + 1)) refl
   where
@@ -63,10 +69,10 @@ or-right true y h = refl
 or-right false y h = h
 
 -- ---- the step with the overflow
-module _ {program ram : List ℕ} {s : State} {k : Progress} (c : ℕ) (small : c < 256) (first second : ℕ) (h : Steps program ram s k)
-    (a : planAt program k first second .number ≡ 0) (u : AllUndisturbed (more first second h a)) (r : Running c 0 s)
+module _ {program : Program} {ram : List ℕ} {s : State} {k : Progress} (c : ℕ) (small : c < 256) (first second : ℕ) (h : Steps program ram s k)
+    (a : planAt program k first second .number ≡ 0) (u : AllUndisturbed (more first second h a)) (r : Going c 0 s)
     (b : k .cycles < overflowCycle c) (g : overflowCycle c ≤ k .cycles + planAt program k first second .cycles) where
-  before-step : Running c (k .cycles) (k .state)
+  before-step : Going c (k .cycles) (k .state)
   before-step = count-law c h (u .0) r
 
   positive : 1 ≤ overflowCycle c
@@ -101,8 +107,8 @@ module _ {program ram : List ℕ} {s : State} {k : Progress} (c : ℕ) (small : 
           (subst P (sym (second-before (courseAt program k first second) first second)) (one (eqb-true _ _ e))))
       go true false e f =
           let d : planAt program k first second .cycles ≡ 2 → ⊥ = eqb-false _ _ f in
-          let o = one-or-two program k first second a in
-          let w : planAt program k first second .cycles ≡ 1 = omega (arith, o .0, o .1, d) in
+          let o = two-at-most program k first second a in
+          let w : planAt program k first second .cycles ≡ 1 = omega (arith, o, d, b, g) in
           subst P (sym (ends-first program k first second a w)) (one (eqb-true _ _ e))
       go false true e f =
           let d : overflowCycle c ≡ k .cycles + 1 → ⊥ = eqb-false _ _ e in
@@ -112,8 +118,8 @@ module _ {program ram : List ℕ} {s : State} {k : Progress} (c : ℕ) (small : 
       go false false e f =
           let d : overflowCycle c ≡ k .cycles + 1 → ⊥ = eqb-false _ _ e in
           let d' : planAt program k first second .cycles ≡ 2 → ⊥ = eqb-false _ _ f in
-          let o = one-or-two program k first second a in
-          let w : planAt program k first second .cycles ≡ 1 = omega (arith, o .0, o .1, d') in
+          let o = two-at-most program k first second a in
+          let w : planAt program k first second .cycles ≡ 1 = omega (arith, o, d', b, g) in
           absurd (omega arith)
 
   -- It leaves TF set,
@@ -143,25 +149,27 @@ unfolding declined
 declined-calls z n s h = record { calls = λ e. absurd (h e) }
 
 course-calls :
-    (program ram : List ℕ) (s : State) (first second : ℕ) → isLow resetPin first ≡ false → externalCalls s first ≡ false → timerCalls s ≡ true
+    (program : Program) (ram : List ℕ) (s : State) (first second : ℕ) → isLow resetPin first ≡ false → isWaiting (s .mode) ≡ false
+    → externalCalls s first ≡ false → timerCalls s ≡ true
     → Calls (accepted (called (withoutRequest s) 7) 2) (course program ram s first second)
 unfolding course
-course-calls program ram s first second r e t =
+course-calls program ram s first second r h e t =
     either (Calls _) _ _ _ (λ w. declined-calls _ _ s (eqb-false _ _ (not-true _ w)))
     (λ w. either (Calls _) _ _ _ (λ v. absurd (false≢true (sym r ∙ v)))
-    (λ v. either (Calls _) _ _ _ (λ x. absurd (false≢true (sym e ∙ x)))
+    (λ v. either (Calls _) _ _ _ (λ g. absurd (false≢true (sym h ∙ g)))
+    (λ g. either (Calls _) _ _ _ (λ x. absurd (false≢true (sym e ∙ x)))
     (λ x. either (Calls _) _ _ _ (λ y. record { calls = λ z. refl })
-    (λ y. absurd (false≢true (sym y ∙ t))))))
+    (λ y. absurd (false≢true (sym y ∙ t)))))))
 
 call-request : (s : State) → accepted (called (withoutRequest s) 7) 2 .state .request ≡ false
 unfolding accepted called withoutRequest pushed
 call-request s = refl
 
-call-pc : (s : State) → accepted (called (withoutRequest s) 7) 2 .state .pc ≡ 7
+pub call-pc : (s : State) → accepted (called (withoutRequest s) 7) 2 .state .pc ≡ 7
 unfolding accepted called withoutRequest pushed
 call-pc s = refl
 
-call-service : (s : State) → accepted (called (withoutRequest s) 7) 2 .state .interrupts .service ≡ true
+pub call-service : (s : State) → accepted (called (withoutRequest s) 7) 2 .state .interrupts .service ≡ true
 unfolding accepted called withoutRequest pushed
 call-service s = refl
 
@@ -172,15 +180,15 @@ call-write :
 unfolding accepted called withoutRequest pushed
 call-write s = refl
 
-call-cycles : (s : State) → accepted (called (withoutRequest s) 7) 2 .cycles ≡ 2
+pub call-cycles : (s : State) → accepted (called (withoutRequest s) 7) 2 .cycles ≡ 2
 unfolding accepted
 call-cycles s = refl
 
-settled-pc : (s : State) (cycles : ℕ) (fresh : Bool) (first second : ℕ) → settled s cycles fresh first second .pc ≡ s .pc
+pub settled-pc : (s : State) (cycles : ℕ) (fresh : Bool) (first second : ℕ) → settled s cycles fresh first second .pc ≡ s .pc
 unfolding settled
 settled-pc s cycles fresh first second = refl
 
-settled-service : (s : State) (cycles : ℕ) (fresh : Bool) (first second : ℕ) → settled s cycles fresh first second .interrupts .service ≡ s .interrupts .service
+pub settled-service : (s : State) (cycles : ℕ) (fresh : Bool) (first second : ℕ) → settled s cycles fresh first second .interrupts .service ≡ s .interrupts .service
 unfolding settled
 settled-service s cycles fresh first second = refl
 
@@ -189,17 +197,20 @@ unfolding firstCycle
 first-request c first = refl
 
 -- "The external one is disabled or its pin high."
-external-off : (s : State) (first : ℕ) → (s .interrupts .external ≡ false) ⊎ (isLow intPin first ≡ false) → externalCalls s first ≡ false
-external-off s first h = go (s .interrupts .service) (s .interrupts .external) (isLow intPin first) h
+pub external-off : (s : State) (first : ℕ) → (s .interrupts .external ≡ false) ⊎ (isLow intPin first ≡ false) → externalCalls s first ≡ false
+external-off s first h = go (isRunning (s .mode)) (s .interrupts .service) (s .interrupts .external) (isLow intPin first) h
   where
-    go : (x y z : Bool) → (y ≡ false) ⊎ (z ≡ false) → (not x && y && z) ≡ false
-    go true y z h = refl
-    go false false z h = refl
-    go false true false h = refl
-    go false true true h = ⊎-elim (λ e. e) (λ e. e) h
+    go : (w x y z : Bool) → (y ≡ false) ⊎ (z ≡ false) → (w && not x && y && z) ≡ false
+    go false x y z h = refl
+    go true true y z h = refl
+    go true false false z h = refl
+    go true false true false h = refl
+    go true false true true h = ⊎-elim (λ e. e) (λ e. e) h
 
-timer-on : (s : State) → s .interrupts .service ≡ false → s .interrupts .tcnti ≡ true → s .request ≡ true → timerCalls s ≡ true
-timer-on s x y z = rw (x, y, z)
+pub timer-on :
+    (s : State) → s .mode ≡ Running → s .interrupts .service ≡ false → s .interrupts .tcnti ≡ true → s .request ≡ true
+    → timerCalls s ≡ true
+timer-on s w x y z = rw (w, x, y, z)
 
 calm-after : (c i : ℕ) → c < 256 → overflowCycle c < i → i ≤ overflowCycle c + 3 → (32 * c + i) % 8192 ≡ 0 → ⊥
 calm-after c i h l g e = omega arith
@@ -209,11 +220,12 @@ unfolding written
 pair-written ram w at low high e = rw e
 
 -- A step that finds a request, with nothing in service and no external interrupt, is the call, and no overflow falls into it.
-module _ (program : List ℕ) (k : Progress) (first second : ℕ) (a : planAt program k first second .number ≡ 0)
-    (q : Undisturbed program (k .state) first) (e : externalCalls (k .state) first ≡ false) (t : timerCalls (k .state) ≡ true)
-    (c n : ℕ) (small : c < 256) (h : Running c n (k .state)) (l : overflowCycle c ≤ n) (g : n + 1 + 1 ≤ overflowCycle c + 3) where
+module _ (program : Program) (k : Progress) (first second : ℕ) (a : planAt program k first second .number ≡ 0)
+    (q : Undisturbed program (k .state) first) (v : k .state .mode ≡ Running) (e : externalCalls (k .state) first ≡ false)
+    (t : timerCalls (k .state) ≡ true)
+    (c n : ℕ) (small : c < 256) (h : Going c n (k .state)) (l : overflowCycle c ≤ n) (g : n + 1 + 1 ≤ overflowCycle c + 3) where
   the-call : courseAt program k first second ≡ accepted (called (withoutRequest (k .state)) 7) 2
-  the-call = course-calls program (k .ram) (k .state) first second (q .no-reset) e t .calls (accepted-course program k first second a)
+  the-call = course-calls program (k .ram) (k .state) first second (q .no-reset) (ap isWaiting v) e t .calls (accepted-course program k first second a)
 
   two-cycles : planAt program k first second .cycles ≡ 2
   two-cycles = sym (same-cycles program k first second a) ∙ ap (λ (x : Course). x .cycles) the-call ∙ call-cycles (k .state)
@@ -252,6 +264,7 @@ module _ (program : List ℕ) (k : Progress) (first second : ℕ) (a : planAt pr
             ∙ settled-service (courseAt program k first second .state) _ _ first second
             ∙ ap (λ (x : Course). x .state .interrupts .service) the-call ∙ call-service (k .state);
         cycles = two-cycles;
+        used = same-used program k first second a (omega (arith, two-cycles)) ∙ two-cycles;
         memory =
             pair-written (k .ram) _ _ _ _
             (plan-write (courseAt program k first second) (k .state) first second (accepted-course program k first second a)
@@ -260,25 +273,30 @@ module _ (program : List ℕ) (k : Progress) (first second : ℕ) (a : planAt pr
 
 -- The third demand's last sentence. h is the history before the step with the first overflow, a that step, a' the next one. If the timer
 -- interrupt is enabled in the overflow's cycle, all conditions hold through the next step, and at that step's start no interrupt is in
--- service and the external one is disabled or INT is high, then that step is the call to 7, and it ends at most 3 cycles after the
--- overflow.
-module _ {program ram : List ℕ} {s : State} {k : Progress} (c : ℕ) (small : c < 256) (r : Running c 0 s) (h : Steps program ram s k)
+-- service and the external one is disabled or INT is high, and the step with the overflow is neither HALT nor STOP, then the next step is the
+-- call to 7, and it ends at most 3 cycles after the overflow.
+module _ {program : Program} {ram : List ℕ} {s : State} {k : Progress} (c : ℕ) (small : c < 256) (r : Going c 0 s) (h : Steps program ram s k)
     (first second : ℕ) (a : planAt program k first second .number ≡ 0)
     (b : k .cycles < overflowCycle c) (g : overflowCycle c ≤ k .cycles + planAt program k first second .cycles)
     (on : cycle (more first second h a) (overflowCycle c) .enabled ≡ true)
     (first' second' : ℕ) (a' : planAt program (after program k first second) first' second' .number ≡ 0)
     (u : AllUndisturbed (more first' second' (more first second h a) a'))
     (idle : after program k first second .state .interrupts .service ≡ false)
-    (off : (after program k first second .state .interrupts .external ≡ false) ⊎ (isLow intPin first' ≡ false)) where
+    (off : (after program k first second .state .interrupts .external ≡ false) ⊎ (isLow intPin first' ≡ false))
+    (awake : (i : Instruction) → CarriesOut program (k .state) first i → Standby i → ⊥) where
+  -- The step with the overflow leaves the machine running.
+  left-running : after program k first second .state .mode ≡ Running
+  left-running = runs-after program (k .ram) (k .state) first second awake a (omega (arith, b, g))
+
   pub call-law : CallTo7 program (after program k first second) first' second'
   call-law =
-      let o = one-or-two program k first second a in
-      answered program (after program k first second) first' second' a' (u .1) (external-off (after program k first second .state) first' off)
-      (timer-on (after program k first second .state) idle (left-enabled c small first second h a (u .0) r b g on) (left-request c small first second h a (u .0) r b g on))
-      c (k .cycles + planAt program k first second .cycles) small (count-law c (more first second h a) (u .0) r) g (omega (arith, o .1))
+      let o = two-at-most program k first second a in
+      answered program (after program k first second) first' second' a' (u .1) left-running (external-off (after program k first second .state) first' off)
+      (timer-on (after program k first second .state) left-running idle (left-enabled c small first second h a (u .0) r b g on) (left-request c small first second h a (u .0) r b g on))
+      c (k .cycles + planAt program k first second .cycles) small (count-law c (more first second h a) (u .0) r) g (omega (arith, o, b))
 
   pub within-3 : k .cycles + planAt program k first second .cycles + planAt program (after program k first second) first' second' .cycles ≤ overflowCycle c + 3
   within-3 =
-      let o = one-or-two program k first second a in
+      let o = two-at-most program k first second a in
       let w = call-law .cycles in
-      omega (arith, o .1, w)
+      omega (arith, o, w, b)

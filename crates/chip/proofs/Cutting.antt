@@ -9,10 +9,11 @@ use native.Mathlib.Omega.{arith}
 use lib.Dec.{eqb}
 use lib.ListN.{length, getD, drop, length-append}
 use borrow.Author.Tests.{eqb-true, eqb-false, ne-eqb}
+use Rattle.isa.specs.Reading.{Program}
 use Rattle.isa.specs.Choice.{pick}
 use Rattle.machine.specs.declared.State.{State}
 use Rattle.effects.specs.declared.Event.{Event}
-use Rattle.chip.specs.Admission.{lentNumber}
+use Rattle.chip.specs.Admission.{lentOf}
 use Rattle.chip.specs.History.{Steps, none, more, Reads, HistoryOf}
 use Rattle.chip.specs.Run.{Progress, Ended, begun, gone, ended, turned, runOver, runOf, Joined}
 use Rattle.chip.specs.Step.{Plan, planOf}
@@ -39,7 +40,7 @@ module _ (u c : ℕ) (es : List Event) where
       (p : Plan) (m : Progress) (one two : Progress → Ended) → ((k : Progress) → Later u c es (one k) (one (later k)))
       → ((k : Progress) → Later u c es (two k) (two (later k))) → Later u c es (turned p m one two) (turned p (later m) one two)
   unfolding pick
-  turned-later p m one two f g = go (eqb (p .number) 0) (eqb (p .cycles) 1)
+  turned-later p m one two f g = go (eqb (p .number) 0) (eqb (p .used) 1)
     where
       go :
           (a b : Bool)
@@ -49,7 +50,7 @@ module _ (u c : ℕ) (es : List Event) where
       go true true = subst (λ (k : Progress). Later u c es (one (gone m p)) (one k)) (sym (gone-later m p)) (f (gone m p))
       go true false = subst (λ (k : Progress). Later u c es (two (gone m p)) (two k)) (sym (gone-later m p)) (g (gone m p))
 
-  over-later : (program xs : List ℕ) (m : Progress) → Later u c es (runOver program xs m) (runOver program xs (later m))
+  over-later : (program : Program) (xs : List ℕ) (m : Progress) → Later u c es (runOver program xs m) (runOver program xs (later m))
   unfolding runOver
   over-later program [] m = record { number = refl; state = refl; ram = refl; used = refl; cycles = refl; events = refl }
   over-later program (x ∷ []) m = record { number = refl; state = refl; ram = refl; used = refl; cycles = refl; events = refl }
@@ -58,7 +59,7 @@ module _ (u c : ℕ) (es : List Event) where
 
 -- From where a run stands, so beginning anew.
 onward :
-    (program xs : List ℕ) (m : Progress)
+    (program : Program) (xs : List ℕ) (m : Progress)
     → Later (m .used) (m .cycles) (m .events) (runOver program xs (begun (m .ram) (m .state))) (runOver program xs m)
 onward program xs m =
     subst (λ (k : Progress). Later (m .used) (m .cycles) (m .events) (runOver program xs (begun (m .ram) (m .state))) (runOver program xs k)) same
@@ -81,7 +82,7 @@ drop-front (x ∷ xs) ys (suc i) l = drop-front xs ys i (omega arith)
 longer-length : (xs ys : List ℕ) → length xs ≤ length (xs ++ ys)
 longer-length xs ys = rw length-append (omega arith)
 
-reads-more : {program ram : List ℕ} {s : State} {k : Progress} (xs ys : List ℕ) (h : Steps program ram s k) → Reads xs h → Reads (xs ++ ys) h
+reads-more : {program : Program} {ram : List ℕ} {s : State} {k : Progress} (xs ys : List ℕ) (h : Steps program ram s k) → Reads xs h → Reads (xs ++ ys) h
 reads-more xs ys none d = tt
 reads-more xs ys (more {k = k} first second h a) d =
     let l = longer-length xs ys in (
@@ -93,13 +94,13 @@ reads-more xs ys (more {k = k} first second h a) d =
 
 -- Where 1, 2 and 3 are not given, they are not given after any accepted steps.
 pub still-lent :
-    {program ram : List ℕ} {s : State} {k : Progress} → Steps program ram s k → lentNumber (length program) (length ram) s ≡ 0
-    → lentNumber (length program) (length (k .ram)) (k .state) ≡ 0
+    {program : Program} {ram : List ℕ} {s : State} {k : Progress} → Steps program ram s k → lentOf program ram s ≡ 0
+    → lentOf program (k .ram) (k .state) ≡ 0
 still-lent none z = z
 still-lent {program} (more {k = k} first second h a) z =
     still-stands program (k .ram) (k .state) first second _ _ refl refl a (still-lent h z)
 
-module _ (program ram : List ℕ) (s : State) (xs ys : List ℕ) where
+module _ (program : Program) (ram : List ℕ) (s : State) (xs ys : List ℕ) where
   -- The first part, the rest from where it ended, and the whole.
   abbrev part : Ended
   part = runOf program ram s xs
@@ -110,14 +111,14 @@ module _ (program ram : List ℕ) (s : State) (xs ys : List ℕ) where
   abbrev whole : Ended
   whole = runOf program ram s (xs ++ ys)
 
-  not-begun : (zs : List ℕ) → (lentNumber (length program) (length ram) s ≡ 0 → ⊥) → runOf program ram s zs ≡ ended (begun ram s) (lentNumber (length program) (length ram) s)
+  not-begun : (zs : List ℕ) → (lentOf program ram s ≡ 0 → ⊥) → runOf program ram s zs ≡ ended (begun ram s) (lentOf program ram s)
   unfolding runOf pick
   not-begun zs n = rw (ne-eqb _ _ n)
 
-  cut-refused : (lentNumber (length program) (length ram) s ≡ 0 → ⊥) → Joined part rest whole
+  cut-refused : (lentOf program ram s ≡ 0 → ⊥) → Joined part rest whole
   cut-refused n = rw (not-begun xs n) (rw (not-begun (xs ++ ys) n) (record { number = refl; state = refl; ram = refl; used = refl; cycles = refl; events = refl }))
 
-  cut-lent : lentNumber (length program) (length ram) s ≡ 0 → HistoryOf program ram s xs (runOver program xs (begun ram s)) → Joined part rest whole
+  cut-lent : lentOf program ram s ≡ 0 → HistoryOf program ram s xs (runOver program xs (begun ram s)) → Joined part rest whole
   cut-lent z h =
       let first : part ≡ ended (h .end) (runOver program xs (begun ram s) .ran .number) = run-over program ram s xs z ∙ h .is in
       let all : whole ≡ runOver program (drop (h .end .used) xs ++ ys) (h .end) =
@@ -135,8 +136,8 @@ module _ (program ram : List ℕ) (s : State) (xs ys : List ℕ) where
       Joined (runOf program ram s xs)
       (runOf program (runOf program ram s xs .ram) (runOf program ram s xs .ran .state) (drop (runOf program ram s xs .ran .used) xs ++ ys))
       (runOf program ram s (xs ++ ys))
-  run-cut = go (eqb (lentNumber (length program) (length ram) s) 0) refl
+  run-cut = go (eqb (lentOf program ram s) 0) refl
     where
-      go : (b : Bool) → eqb (lentNumber (length program) (length ram) s) 0 ≡ b → Joined part rest whole
+      go : (b : Bool) → eqb (lentOf program ram s) 0 ≡ b → Joined part rest whole
       go true e = cut-lent (eqb-true _ _ e) (over-history program ram s xs)
       go false e = cut-refused (eqb-false _ _ e)

@@ -6,14 +6,14 @@ use mathlib.Core.List.{List}
 use mathlib.Core.Path.{_≡_, refl, sym, ap, _∙_, subst}
 use native.Mathlib.Omega.{arith}
 use lib.Dec.{eqb, leb}
-use borrow.Author.Tests.{eqb-true, eqb-false, eq-eqb, ne-eqb, not-true, leb-true, leb-false, lt-leb}
-use Rattle.isa.specs.Choice.{pick}
+use borrow.Author.Tests.{eqb-true, eqb-false, eq-eqb, ne-eqb, not-true, leb-true, leb-false, le-leb, lt-leb}
+use Rattle.isa.specs.Choice.{pick, oneIf}
 use Rattle.isa.specs.Numbers.{Answer, given, refused}
-use Rattle.isa.specs.Reading.{Sized, sized, instructionAt}
+use Rattle.isa.specs.Reading.{Program, Sized, sized, instructionAt}
 use Rattle.isa.specs.declared.Instruction.{Instruction}
 use Rattle.isa.proofs.Finding.{refused-some}
 use Rattle.machine.specs.Counting.{counted}
-use Rattle.machine.specs.State.{countOf, withPc}
+use Rattle.machine.specs.State.{countOf, runningAt}
 use Rattle.machine.specs.declared.Count.{Count}
 use Rattle.machine.specs.declared.Counting.{Counting}
 use Rattle.machine.specs.declared.Counting.the-variants.{Timer}
@@ -22,13 +22,13 @@ use Rattle.machine.proofs.Timing.{At, one-more}
 use Rattle.effects.specs.Effect.{Effect}
 use Rattle.flow.specs.Stack.{pushed}
 use Rattle.execute.specs.Setting.{LeavesCounter, Setting, settingOf}
-use Rattle.execute.proofs.Keeping.{Keeps, keeps}
+use Rattle.execute.proofs.Keeping.{keeps}
 use Rattle.chip.specs.History.{Cycle, afterwards, firstCycle, secondCycle, courseAt, planAt, after, Steps, none, more, cycle, Undisturbed, AllUndisturbed, JustStarted}
 use Rattle.chip.specs.Run.{Progress}
-use Rattle.chip.specs.Step.{Course, Plan, declined, accepted, called, withoutRequest, pcAfter, done, carriedBy, carried, course, ticked, settled, planBy}
+use Rattle.chip.specs.Step.{Course, Plan, declined, accepted, waits, called, withoutRequest, pcAfter, released, done, carriedBy, carried, course, ticked, settled, planBy}
 use Rattle.chip.proofs.Choices.{either}
 use Rattle.chip.proofs.Fresh.{course-once}
-use Rattle.chip.proofs.Lasting.{plan-busy}
+use Rattle.chip.proofs.Lasting.{Spends, in-cycles, in-waiting, plan-busy, waits-only, idle-waits}
 
 -- ---- what an undisturbed step does before its cycles are counted leaves the counter alone
 record Still (s : State) (c : Course) : Type 0 where
@@ -39,11 +39,30 @@ declined-still : (s : State) (n : ℕ) (t : State) → (n ≡ 0 → ⊥) → Sti
 unfolding declined
 declined-still s n t h = record { setting = λ z. absurd (h z); counts = λ z. absurd (h z) }
 
-accepted-still : (s : State) (e : Effect) (cycles : ℕ) → Keeps s e → Still s (accepted e cycles)
+-- An effect leaves the counter alone, and its cycle is to be counted.
+abbrev Leaves : State → Effect → Type 0
+Leaves s e = (settingOf (e .state) ≡ settingOf s) × (e .fresh ≡ false)
+
+accepted-still : (s : State) (e : Effect) (cycles : ℕ) → Leaves s e → Still s (accepted e cycles)
 unfolding accepted
 accepted-still s e cycles k = record { setting = λ z. k .0; counts = λ z. k .1 }
 
-called-keeps : (s : State) (vector : ℕ) → Keeps s (called s vector)
+-- A release changes the mode alone.
+released-setting : (s : State) (first : ℕ) → settingOf (released s first) ≡ settingOf s
+released-setting s first = either (λ (x : State). settingOf x ≡ settingOf s) _ _ _ (λ l. refl) (λ l. refl)
+
+waits-state : (s : State) (first : ℕ) → waits s first .state ≡ released s first
+unfolding waits
+waits-state s first = refl
+
+released-count : (s : State) (first : ℕ) → countOf (released s first) ≡ countOf s
+released-count s first = either (λ (x : State). countOf x ≡ countOf s) _ _ _ (λ l. refl) (λ l. refl)
+
+waits-still : (s : State) (first : ℕ) → Still s (waits s first)
+unfolding waits
+waits-still s first = record { setting = λ z. released-setting s first; counts = λ z. refl }
+
+called-keeps : (s : State) (vector : ℕ) → Leaves s (called s vector)
 unfolding called pushed
 called-keeps s vector = (refl, refl)
 
@@ -51,13 +70,13 @@ request-keeps : (s : State) → settingOf (withoutRequest s) ≡ settingOf s
 unfolding withoutRequest
 request-keeps s = refl
 
-done-still : (s : State) (e : Effect) (cycles : ℕ) → Keeps s e → Still s (done e cycles s)
+done-still : (s : State) (e : Effect) (cycles : ℕ) → Leaves s e → Still s (done e cycles s)
 unfolding done
 done-still s e cycles k =
     either (Still s) _ _ _ (λ t. accepted-still s e cycles k) (λ t. declined-still s _ s (eqb-false _ _ t))
 
 carried-still :
-    (program ram : List ℕ) (s : State) (first second : ℕ)
+    (program : Program) (ram : List ℕ) (s : State) (first second : ℕ)
     → ((i : Instruction) (n : ℕ) → instructionAt program (s .pc) ≡ given (sized i n) → LeavesCounter i)
     → Still s (carried program ram s first second)
 unfolding carried
@@ -66,18 +85,21 @@ carried-still program ram s first second f = go (instructionAt program (s .pc)) 
     go : (a : Answer Sized) → instructionAt program (s .pc) ≡ a → Still s (carriedBy a program ram s first second)
     go (refused n) e = declined-still s n s (refused-some program (s .pc) n e)
     go (given (sized i n)) e =
-        done-still s _ _ (keeps i program ram (withPc s (pcAfter n (s .pc))) (s .pc) first second (f i n e))
+        let k = keeps i (program .bytes) ram (runningAt s (pcAfter n (s .pc))) (s .pc) first second in
+        done-still s _ _ (k .setting (f i n e), k .counted (f i n e))
 
 course-still :
-    (program ram : List ℕ) (s : State) (first second : ℕ) → Undisturbed program s first → Still s (course program ram s first second)
+    (program : Program) (ram : List ℕ) (s : State) (first second : ℕ) → Undisturbed program s first → Still s (course program ram s first second)
 unfolding course
 course-still program ram s first second u =
     either (Still s) _ _ _ (λ t. declined-still s _ s (eqb-false _ _ (not-true _ t)))
     (λ t. either (Still s) _ _ _ (λ v. absurd (false≢true (sym (u .no-reset) ∙ v)))
-    (λ v. either (Still s) _ _ _ (λ w. accepted-still s _ 2 (called-keeps s 3))
+    (λ v. either (Still s) _ _ _ (λ h. waits-still s first)
+    (λ h. either (Still s) _ _ _ (λ w. accepted-still s _ 2 (called-keeps s 3))
     (λ w. either (Still s) _ _ _
     (λ x. accepted-still s _ 2 (called-keeps (withoutRequest s) 7 .0 ∙ request-keeps s, called-keeps (withoutRequest s) 7 .1))
-    (λ x. carried-still program ram s first second (u .none-of-four w x)))))
+    (λ x. carried-still program ram s first second
+    (λ i n e. u .none-of-four i (record { no-reset = v; no-wait = h; no-external = w; no-timer = x; bytes = n; stands = e })))))))
 
 -- ---- an accepted step is its course, and then its cycles counted
 record Takes (c : Course) (p : Plan) : Type 0 where
@@ -102,7 +124,11 @@ module _ (c : Course) (s : State) (first second : ℕ) where
   unfolding planBy pick
   plan-write h = rw (eq-eqb _ _ h)
 
--- The counter after one cycle and after two, and what counting leaves.
+-- The counter after no cycle, after one and after two, and what counting leaves.
+settled-none : (c : Course) (first second : ℕ) → c .cycles ≡ 0 → settled (c .state) (c .cycles) (c .fresh) first second ≡ c .state
+unfolding settled ticked pick
+settled-none c first second e = rw e
+
 settled-one :
     (c : Course) (first second : ℕ) → c .cycles ≡ 1
     → countOf (settled (c .state) (c .cycles) (c .fresh) first second) ≡ afterwards (firstCycle c first)
@@ -150,11 +176,50 @@ counts-one c n x e f h =
           (one-more c n (x .before) (x .t1) (x .enabled) h));
     }
 
-module _ (program : List ℕ) (k : Progress) (first second : ℕ) (a : planAt program k first second .number ≡ 0) where
-  -- An accepted step takes one cycle or two.
-  pub one-or-two : (1 ≤ planAt program k first second .cycles) × (planAt program k first second .cycles ≤ 2)
-  one-or-two =
-      (plan-busy program (k .ram) (k .state) first second .some a, plan-busy program (k .ram) (k .state) first second .few a)
+module _ (program : Program) (k : Progress) (first second : ℕ) (a : planAt program k first second .number ≡ 0) where
+  spent : Spends (planAt program k first second .cycles) (planAt program k first second .used)
+  spent = plan-busy program (k .ram) (k .state) first second .spends a
+
+  -- An accepted step takes two cycles at most, and uses one sample or two.
+  pub two-at-most : planAt program k first second .cycles ≤ 2
+  two-at-most = go spent
+    where
+      go : Spends (planAt program k first second .cycles) (planAt program k first second .used) → planAt program k first second .cycles ≤ 2
+      go (in-cycles l g e) = g
+      go (in-waiting e f) = omega arith
+
+  pub one-or-two : (1 ≤ planAt program k first second .used) × (planAt program k first second .used ≤ 2)
+  one-or-two = go spent
+    where
+      go :
+          Spends (planAt program k first second .cycles) (planAt program k first second .used)
+          → (1 ≤ planAt program k first second .used) × (planAt program k first second .used ≤ 2)
+      go (in-cycles l g e) = (omega arith, omega arith)
+      go (in-waiting e f) = (omega arith, omega arith)
+
+  pub cycles-used : planAt program k first second .cycles ≤ planAt program k first second .used
+  cycles-used = go spent
+    where
+      go : Spends (planAt program k first second .cycles) (planAt program k first second .used) → planAt program k first second .cycles ≤ planAt program k first second .used
+      go (in-cycles l g e) = omega arith
+      go (in-waiting e f) = omega arith
+
+  pub same-used : 1 ≤ planAt program k first second .cycles → planAt program k first second .used ≡ planAt program k first second .cycles
+  same-used some = go spent
+    where
+      go : Spends (planAt program k first second .cycles) (planAt program k first second .used) → planAt program k first second .used ≡ planAt program k first second .cycles
+      go (in-cycles l g e) = e
+      go (in-waiting e f) = absurd (omega arith)
+
+  -- One sample a cycle, and one for a step without any.
+  pub samples-used : planAt program k first second .used ≡ planAt program k first second .cycles + oneIf (eqb (planAt program k first second .cycles) 0)
+  samples-used = go spent
+    where
+      go :
+          Spends (planAt program k first second .cycles) (planAt program k first second .used)
+          → planAt program k first second .used ≡ planAt program k first second .cycles + oneIf (eqb (planAt program k first second .cycles) 0)
+      go (in-cycles l g e) = rw (e, ne-eqb (planAt program k first second .cycles) 0 (λ z. omega arith)) (omega arith)
+      go (in-waiting e f) = rw (e, f)
 
   pub accepted-course : courseAt program k first second .number ≡ 0
   accepted-course = course-number (courseAt program k first second) (k .state) first second a
@@ -169,6 +234,20 @@ module _ (program : List ℕ) (k : Progress) (first second : ℕ) (a : planAt pr
 
   pub ends-enabled : after program k first second .state .interrupts .tcnti ≡ courseAt program k first second .state .interrupts .tcnti
   ends-enabled = ap (λ (s : State). s .interrupts .tcnti) is-settled ∙ settled-timer (courseAt program k first second .state) _ _ first second
+
+  -- A step without a cycle is a wait, and leaves the counter.
+  pub waits-then : planAt program k first second .cycles ≡ 0 → courseAt program k first second ≡ waits (k .state) first
+  waits-then e =
+      waits-only program (k .ram) (k .state) first second
+      (idle-waits program (k .ram) (k .state) first second accepted-course (same-cycles ∙ e))
+
+  pub ends-waiting : planAt program k first second .cycles ≡ 0 → after program k first second .state ≡ released (k .state) first
+  ends-waiting e =
+      is-settled ∙ settled-none (courseAt program k first second) first second (same-cycles ∙ e)
+      ∙ ap (λ (c : Course). c .state) (waits-then e) ∙ waits-state (k .state) first
+
+  pub ends-none : planAt program k first second .cycles ≡ 0 → countOf (after program k first second .state) ≡ countOf (k .state)
+  ends-none e = ap countOf (ends-waiting e) ∙ released-count (k .state) first
 
   -- The state after it has the counter of its last cycle.
   pub ends-first :
@@ -210,20 +289,25 @@ module _ (program : List ℕ) (k : Progress) (first second : ℕ) (a : planAt pr
       second-counts = counts-one c (n + 1) (secondCycle (courseAt program k first second) first second) course-counting refl (first-counts .to)
 
       step-at : At c (n + planAt program k first second .cycles) (countOf (after program k first second .state))
-      step-at = go (eqb (planAt program k first second .cycles) 2) refl
+      step-at = go (eqb (planAt program k first second .cycles) 2) (eqb (planAt program k first second .cycles) 0) refl refl
         where
           go :
-              (b : Bool) → eqb (planAt program k first second .cycles) 2 ≡ b
+              (b d : Bool) → eqb (planAt program k first second .cycles) 2 ≡ b → eqb (planAt program k first second .cycles) 0 ≡ d
               → At c (n + planAt program k first second .cycles) (countOf (after program k first second .state))
-          go true e =
+          go true d e f =
               let w : planAt program k first second .cycles ≡ 2 = eqb-true _ _ e in
               let l : n + 1 + 1 ≡ n + planAt program k first second .cycles = omega arith in
               subst (λ (x : Count). At c (n + planAt program k first second .cycles) x) (sym (ends-second w))
               (subst (λ (i : ℕ). At c i (afterwards (secondCycle (courseAt program k first second) first second))) l (second-counts .to))
-          go false e =
+          go false true e f =
+              let w : planAt program k first second .cycles ≡ 0 = eqb-true _ _ f in
+              let l : n ≡ n + planAt program k first second .cycles = omega arith in
+              subst (λ (x : Count). At c (n + planAt program k first second .cycles) x) (sym (ends-none w))
+              (subst (λ (i : ℕ). At c i (countOf (k .state))) l (h .at))
+          go false false e f =
               let d : planAt program k first second .cycles ≡ 2 → ⊥ = eqb-false _ _ e in
-              let o = one-or-two in
-              let w : planAt program k first second .cycles ≡ 1 = omega (arith, o .0, o .1, d) in
+              let d' : planAt program k first second .cycles ≡ 0 → ⊥ = eqb-false _ _ f in
+              let w : planAt program k first second .cycles ≡ 1 = omega (arith, two-at-most, d, d') in
               let l : n + 1 ≡ n + planAt program k first second .cycles = omega arith in
               subst (λ (x : Count). At c (n + planAt program k first second .cycles) x) (sym (ends-first w))
               (subst (λ (i : ℕ). At c i (afterwards (firstCycle (courseAt program k first second) first))) l (first-counts .to))
@@ -235,8 +319,14 @@ module _ (program : List ℕ) (k : Progress) (first second : ℕ) (a : planAt pr
             at = step-at;
           }
 
--- ---- the cycles of the last step of a history
-module _ {program ram : List ℕ} {s : State} {k : Progress} (first second : ℕ) (h : Steps program ram s k)
+-- ---- the cycles of the last step of a history, and those before it
+pub cycle-before :
+    {program : Program} {ram : List ℕ} {s : State} {k : Progress} (first second : ℕ) (h : Steps program ram s k)
+    (a : planAt program k first second .number ≡ 0) (i : ℕ) → i ≤ k .cycles → cycle (more first second h a) i ≡ cycle h i
+unfolding cycle pick
+cycle-before {k = k} first second h a i l = rw (le-leb i (k .cycles) l)
+
+module _ {program : Program} {ram : List ℕ} {s : State} {k : Progress} (first second : ℕ) (h : Steps program ram s k)
     (a : planAt program k first second .number ≡ 0) (i : ℕ) (b : k .cycles < i) where
   pub cycle-first : i ≡ k .cycles + 1 → cycle (more first second h a) i ≡ firstCycle (courseAt program k first second) first
   unfolding cycle pick
@@ -246,23 +336,32 @@ module _ {program ram : List ℕ} {s : State} {k : Progress} (first second : ℕ
   unfolding cycle pick
   cycle-second e = rw (lt-leb i (k .cycles) b, ne-eqb i (k .cycles + 1) e)
 
--- After any history that is not empty the counter is that of its last cycle, counted or not.
+-- After any history that has a cycle the counter is that of its last cycle, counted or not.
 pub ends-last :
-    {program ram : List ℕ} {s : State} {k : Progress} (h : Steps program ram s k) → 1 ≤ k .cycles
+    {program : Program} {ram : List ℕ} {s : State} {k : Progress} (h : Steps program ram s k) → 1 ≤ k .cycles
     → countOf (k .state) ≡ afterwards (cycle h (k .cycles))
 ends-last none l = absurd (omega arith)
-ends-last {program} (more {k = k} first second h a) l = go (eqb (planAt program k first second .cycles) 2) refl
+ends-last {program} (more {k = k} first second h a) l =
+    go (λ g. ends-last h g) (eqb (planAt program k first second .cycles) 2) (eqb (planAt program k first second .cycles) 0) refl refl
   where
     go :
-        (b : Bool) → eqb (planAt program k first second .cycles) 2 ≡ b
+        (1 ≤ k .cycles → countOf (k .state) ≡ afterwards (cycle h (k .cycles)))
+        → (b d : Bool) → eqb (planAt program k first second .cycles) 2 ≡ b → eqb (planAt program k first second .cycles) 0 ≡ d
         → countOf (after program k first second .state) ≡ afterwards (cycle (more first second h a) (k .cycles + planAt program k first second .cycles))
-    go true e =
+    go earlier true d e f =
         let w : planAt program k first second .cycles ≡ 2 = eqb-true _ _ e in
         ends-second program k first second a w ∙ ap afterwards (sym (cycle-second first second h a _ (omega arith) (λ z. omega arith)))
-    go false e =
+    go earlier false true e f =
+        let w : planAt program k first second .cycles ≡ 0 = eqb-true _ _ f in
+        let n : k .cycles ≡ k .cycles + planAt program k first second .cycles = omega arith in
+        let g : 1 ≤ k .cycles = omega (arith, l) in
+        ends-none program k first second a w ∙ earlier g
+        ∙ ap afterwards (sym (cycle-before first second h a (k .cycles) (omega arith)) ∙ ap (cycle (more first second h a)) n)
+    go earlier false false e f =
         let d : planAt program k first second .cycles ≡ 2 → ⊥ = eqb-false _ _ e in
-        let o = one-or-two program k first second a in
-        let w : planAt program k first second .cycles ≡ 1 = omega (arith, o .0, o .1, d) in
+        let d' : planAt program k first second .cycles ≡ 0 → ⊥ = eqb-false _ _ f in
+        let o = two-at-most program k first second a in
+        let w : planAt program k first second .cycles ≡ 1 = omega (arith, o, d, d') in
         ends-first program k first second a w ∙ ap afterwards (sym (cycle-first first second h a _ (omega arith) (omega arith)))
 
 -- The counter just started, no cycle counted yet.
@@ -274,7 +373,7 @@ at-start c s l h = record { counting = h .counting; at = record { t = h .t ∙ s
 
 -- After a history of n cycles the counter holds c + n / 32 modulo 256.
 pub count-law :
-    {program ram : List ℕ} {s : State} {k : Progress} (c : ℕ) (h : Steps program ram s k) → AllUndisturbed h → Running c 0 s
+    {program : Program} {ram : List ℕ} {s : State} {k : Progress} (c : ℕ) (h : Steps program ram s k) → AllUndisturbed h → Running c 0 s
     → Running c (k .cycles) (k .state)
 count-law c none u r = r
 count-law {program} c (more {k = k} first second h a) u r =
@@ -285,12 +384,12 @@ choose : (c i : ℕ) (b : Bool) (x y : Cycle) → (b ≡ true → Counts c i x) 
 choose c i b x y f g = either (Counts c i) b x y f g
 
 pub cycle-law :
-    {program ram : List ℕ} {s : State} {k : Progress} (c : ℕ) (h : Steps program ram s k) → AllUndisturbed h → Running c 0 s
+    {program : Program} {ram : List ℕ} {s : State} {k : Progress} (c : ℕ) (h : Steps program ram s k) → AllUndisturbed h → Running c 0 s
     → (i : ℕ) → 1 ≤ i → i ≤ k .cycles → Counts c i (cycle h i)
 unfolding cycle
 cycle-law c none u r i l g = absurd (omega arith)
 cycle-law {program} c (more {k = k} first second h a) u r i l g =
-    let o = one-or-two program k first second a in
+    let o = two-at-most program k first second a in
     let t = count-law c h (u .0) r in
     choose c i (leb i (k .cycles)) _ _ (λ e. cycle-law c h (u .0) r i l (leb-true i (k .cycles) e))
     (λ e. choose c i (eqb i (k .cycles + 1)) _ _
@@ -298,5 +397,5 @@ cycle-law {program} c (more {k = k} first second h a) u r i l g =
     (λ f.
     let d : i ≡ k .cycles + 1 → ⊥ = eqb-false i (k .cycles + 1) f in
     let b : k .cycles < i = leb-false i (k .cycles) e in
-    let w : k .cycles + 1 + 1 ≡ i = omega (arith, o .0, o .1) in
+    let w : k .cycles + 1 + 1 ≡ i = omega (arith, o) in
     subst (λ (j : ℕ). Counts c j (secondCycle (courseAt program k first second) first second)) w (second-counts program k first second a (u .1) c (k .cycles) t)))

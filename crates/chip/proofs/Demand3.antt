@@ -9,13 +9,13 @@ use mathlib.Core.Bool.{true}
 use mathlib.Core.List.{List}
 use mathlib.Core.Path.{_≡_, refl, sym, ap, _∙_}
 use native.Mathlib.Omega.{arith}
-use lib.ListN.{length, drop}
+use lib.ListN.{drop}
 use Rattle.isa.specs.Numbers.{given}
-use Rattle.isa.specs.Reading.{sized, instructionAt}
+use Rattle.isa.specs.Reading.{Program, sized, instructionAt}
 use Rattle.isa.specs.declared.Instruction.the-variants.{Control}
 use Rattle.isa.specs.declared.Switch.the-variants.{StrtT}
 use Rattle.machine.specs.declared.State.{State}
-use Rattle.chip.specs.Admission.{lentNumber}
+use Rattle.chip.specs.Admission.{lentOf}
 use Rattle.chip.specs.History.{Cycle, afterwards, Overflowing, Calm, cycle, AllUndisturbed, JustStarted, History, StepWith, upTo, Reads, HistoryOf, overflowCycle, Asked, next, Called}
 use Rattle.chip.specs.Refusals.{Fetches}
 use Rattle.chip.specs.Run.{Ended, runOver, runOf}
@@ -31,11 +31,11 @@ use Rattle.chip.proofs.Starting.{strt-t}
 
 -- A run goes through every history that reads its samples: what it returns and leaves is what it makes of the rest.
 pub run-through :
-    (program ram : List ℕ) (s : State) (samples : List ℕ) → lentNumber (length program) (length ram) s ≡ 0 → (p : History program ram s)
+    (program : Program) (ram : List ℕ) (s : State) (samples : List ℕ) → lentOf program ram s ≡ 0 → (p : History program ram s)
     → Reads samples (p .steps) → runOf program ram s samples ≡ runOver program (drop (p .end .used) samples) (p .end)
 run-through program ram s samples admitted p reads = run-over program ram s samples admitted ∙ over-through samples (p .steps) reads
 
-module _ {program ram : List ℕ} {s : State} (c : ℕ) (small : c < 256) (started : JustStarted c s) where
+module _ {program : Program} {ram : List ℕ} {s : State} (c : ℕ) (small : c < 256) (started : JustStarted c s) where
   module _ (p : History program ram s) (undisturbed : AllUndisturbed (p .steps)) where
     -- "After n more cycles the counter holds c plus the whole part of n/32, modulo 256."
     pub count-after : p .end .state .t ≡ (c + p .end .cycles / 32) % 256
@@ -80,14 +80,14 @@ module _ {program ram : List ℕ} {s : State} (c : ℕ) (small : c < 256) (start
 
   -- "If the timer interrupt is enabled then, .. the call to location 7 is complete at most 3 cycles after the overflow: from c = 0, within
   -- 8,195."
-  pub called-in-time : {samples : List ℕ} → lentNumber (length program) (length ram) s ≡ 0 → (q : Asked program ram s samples c) → Called q
+  pub called-in-time : {samples : List ℕ} → lentOf program ram s ≡ 0 → (q : Asked program ram s samples c) → Called q
   called-in-time {samples} admitted q =
       let o = q .overflow in
       let on = ap (λ (x : Cycle). x .enabled) (begins-cycle (o .begins) (overflowCycle c) (o .ends)) ∙ q .on in
       let u : AllUndisturbed (next q .steps) = (begins-undisturbed (o .begins) (q .undisturbed), q .calm) in
       let w =
       within-3 c small (at-start c s small started) (o .before .steps) (o .first) (o .second) (o .fine) (o .starts) (o .ends) on _ _ (q .fine) u
-      (q .idle) (q .off)
+      (q .idle) (q .off) (q .awake)
       in
       record {
         through =
@@ -95,14 +95,14 @@ module _ {program ram : List ℕ} {s : State} (c : ℕ) (small : c < 256) (start
             (begins-reads samples (o .begins) (q .reads), refl, refl, q .two);
         calls =
             call-law c small (at-start c s small started) (o .before .steps) (o .first) (o .second) (o .fine) (o .starts) (o .ends) on _ _
-            (q .fine) u (q .idle) (q .off);
+            (q .fine) u (q .idle) (q .off) (q .awake);
         soon = w;
         within-8195 = λ z. omega (arith, w);
       }
 
 -- The whole of it, from a step that carries out STRT T: what it asks is asked of the state and the RAM that this step leaves.
 pub from-strt-t :
-    (program ram : List ℕ) (s : State) (first second : ℕ) → Fetches program ram s first second → (n : ℕ)
+    (program : Program) (ram : List ℕ) (s : State) (first second : ℕ) → Fetches program ram s first second → (n : ℕ)
     → instructionAt program (s .pc) ≡ given (sized (Control StrtT) n) → s .t < 256 → (samples : List ℕ)
     → (q : Asked program (ramAfter program ram s first second) (stepOf program ram s first second .state) samples (s .t)) → Called q
 from-strt-t program ram s first second f n i small samples q =

@@ -10,39 +10,40 @@ use lib.ListN.{length}
 use borrow.Author.Tests.{eqb-true, eqb-false, ne-eqb}
 use Rattle.isa.specs.Choice.{pick}
 use Rattle.isa.specs.Numbers.{Answer, given, refused}
-use Rattle.isa.specs.Reading.{Sized, sized, lacks, nextPc, byteAt, instructionAt, decodedAt}
-use Rattle.isa.specs.Sheet.{entryOf}
+use Rattle.isa.specs.Reading.{Program, entryAt, Sized, sized, lacks, nextPc, instructionAt, decodedAt}
 use Rattle.isa.specs.declared.DigitMove.the-variants.{MovdRead, MovdWrite, Orld, Anld}
 use Rattle.isa.specs.declared.Switch.the-variants.{EnI, DisI, Ent0Clk, SelMb0, SelMb1, SelRb0, SelRb1, EnTcnti, DisTcnti, StopTcnt, StrtCnt, StrtT}
 use Rattle.isa.specs.declared.Instruction.{Instruction}
-use Rattle.isa.specs.declared.Instruction.the-variants.{Alu, Accumulator, Djnz, Branch, Jmp, Jmpp, Control, MovA, Mov, MovData, MovAPsw, MovPswA, Movp, Movp3, MovxRead, MovxWrite, Xch, Xchd, Cpl, Clr, Logic, In, Outl, Expander, Dec, Inc, Call, Ret, Retr, MovAT, MovTA, Nop}
+use Rattle.isa.specs.declared.Instruction.the-variants.{Alu, Accumulator, Djnz, Branch, Jmp, Jmpp, Control, MovA, Mov, MovData, MovAPsw, MovPswA, Movp, Movp3, MovxRead, MovxWrite, Xch, Xchd, Cpl, Clr, Logic, In, Outl, Expander, Dec, Inc, Call, Ret, Retr, MovAT, MovTA, Nop, Halt, Stop}
+use Rattle.machine.specs.Mode.{isWaiting}
 use Rattle.machine.specs.Pins.{resetPin, isLow}
-use Rattle.machine.specs.State.{permitted, withPc}
+use Rattle.machine.specs.State.{permitted, runningAt}
 use Rattle.machine.specs.declared.State.{State}
 use Rattle.effects.specs.Effect.{Nothing, Effect, written}
 use Rattle.effects.specs.Moves.{quiet}
 use Rattle.effects.specs.declared.Event.the-variants.{Quiet}
 use Rattle.flow.specs.Stack.{pushed}
 use Rattle.execute.specs.Execute.{executed}
-use Rattle.chip.specs.Admission.{programAllowed, ramAllowed, sampleAllowed, sampleNumber, lentNumber, admission}
+use Rattle.chip.specs.Admission.{programAllowed, ramAllowed, sampleAllowed, sampleNumber, lentNumber, lentOf, admission}
 use Rattle.chip.specs.Refusals.{Fetches, Gives, program-length, ram-length, state-outside, sample-bits, no-first-byte, undefined-code, no-second-byte, no-table-byte, TableByte, of-movp, of-movp3, of-jmpp}
-use Rattle.chip.specs.Step.{Course, Plan, externalCalls, timerCalls, pcAfter, resetState, called, withoutRequest, declined, accepted, done, carriedBy, carried, course, planBy, planOf, stepOf, ramAfter}
+use Rattle.chip.specs.Step.{Course, Plan, externalCalls, timerCalls, pcAfter, resetState, waits, called, withoutRequest, declined, accepted, done, carriedBy, carried, course, planBy, planOf, stepOf, ramAfter}
 use Rattle.chip.proofs.Choices.{either}
 
--- A refused step returns its number, the state it got, no event and 0 cycles, and leaves RAM as it was.
+-- A refused step returns its number, the state it got, no event, 0 cycles and 0 samples, and leaves RAM as it was.
 pub record Unchanged (ram : List ℕ) (s : State) (p : Plan) : Type 0 where
   pub state : p .state ≡ s
   pub event : p .event ≡ Quiet
   pub cycles : p .cycles ≡ 0
+  pub used : p .used ≡ 0
   pub memory : written ram (p .write) ≡ ram
 
 pub refused-unchanged :
-    (program ram : List ℕ) (s : State) (first second : ℕ) → (planOf program ram s first second .number ≡ 0 → ⊥)
+    (program : Program) (ram : List ℕ) (s : State) (first second : ℕ) → (planOf program ram s first second .number ≡ 0 → ⊥)
     → Unchanged ram s (planOf program ram s first second)
 unfolding planBy written
 refused-unchanged program ram s first second n =
     either (λ p. (p .number ≡ 0 → ⊥) → Unchanged ram s p) _ _ _ (λ t h. absurd (h refl))
-    (λ t h. record { state = refl; event = refl; cycles = refl; memory = refl }) n
+    (λ t h. record { state = refl; event = refl; cycles = refl; used = refl; memory = refl }) n
 
 -- The number of a step is its course's.
 number-of : (c : Course) (s : State) (first second : ℕ) → planBy c s first second .number ≡ c .number
@@ -119,13 +120,15 @@ module _ (program ram : List ℕ) (s : State) (base first second : ℕ) where
   numbered MovAT h = absurd (h refl)
   numbered MovTA h = absurd (h refl)
   numbered Nop h = absurd (h refl)
+  numbered Halt h = absurd (h refl)
+  numbered Stop h = absurd (h refl)
 
   -- What an instruction has done to RAM where it is refused: nothing. So a step may write in place and still give RAM back as it came.
   pub refused-writes :
       (i : Instruction) → (executed i program ram s base first second .number ≡ 0 → ⊥) → executed i program ram s base first second .write ≡ Nothing
   refused-writes i h = numbered i h .silent
 
-module _ (program ram : List ℕ) (s : State) (first second : ℕ) where
+module _ (program : Program) (ram : List ℕ) (s : State) (first second : ℕ) where
   abbrev pub G : ℕ → Type 0
   G n = Gives program ram s first second n
 
@@ -133,12 +136,12 @@ module _ (program ram : List ℕ) (s : State) (first second : ℕ) where
   given-by e g = subst (λ (k : ℕ). G k) e g
 
   -- 1, 2, 3.
-  lent-gives : (n : ℕ) → lentNumber (length program) (length ram) s ≡ n → (n ≡ 0 → ⊥) → G n
+  lent-gives : (n : ℕ) → lentOf program ram s ≡ n → (n ≡ 0 → ⊥) → G n
   unfolding lentNumber pick
-  lent-gives n e z = go (programAllowed (length program)) (ramAllowed (length ram)) (permitted s) refl refl refl e
+  lent-gives n e z = go (programAllowed (length (program .bytes))) (ramAllowed (length ram)) (permitted (program .set) s) refl refl refl e
     where
       go :
-          (p r q : Bool) → programAllowed (length program) ≡ p → ramAllowed (length ram) ≡ r → permitted s ≡ q
+          (p r q : Bool) → programAllowed (length (program .bytes)) ≡ p → ramAllowed (length ram) ≡ r → permitted (program .set) s ≡ q
           → pick (not p) 1 (pick (not r) 2 (pick (not q) 3 0)) ≡ n → G n
       go false r q hp hr hq e = given-by e (program-length hp)
       go true false q hp hr hq e = given-by e (ram-length hp hr)
@@ -146,16 +149,16 @@ module _ (program ram : List ℕ) (s : State) (first second : ℕ) where
       go true true true hp hr hq e = absurd (z (sym e))
 
   pub record Allowed : Type 0 where
-    pub program-allowed : programAllowed (length program) ≡ true
+    pub program-allowed : programAllowed (length (program .bytes)) ≡ true
     pub ram-allowed : ramAllowed (length ram) ≡ true
-    pub state-permitted : permitted s ≡ true
+    pub state-permitted : permitted (program .set) s ≡ true
 
-  pub allowed : lentNumber (length program) (length ram) s ≡ 0 → Allowed
+  pub allowed : lentOf program ram s ≡ 0 → Allowed
   unfolding lentNumber pick
-  allowed e = go (programAllowed (length program)) (ramAllowed (length ram)) (permitted s) refl refl refl e
+  allowed e = go (programAllowed (length (program .bytes))) (ramAllowed (length ram)) (permitted (program .set) s) refl refl refl e
     where
       go :
-          (p r q : Bool) → programAllowed (length program) ≡ p → ramAllowed (length ram) ≡ r → permitted s ≡ q
+          (p r q : Bool) → programAllowed (length (program .bytes)) ≡ p → ramAllowed (length ram) ≡ r → permitted (program .set) s ≡ q
           → _≡_ {A = ℕ} (pick (not p) 1 (pick (not r) 2 (pick (not q) 3 0))) 0 → Allowed
       go false r q hp hr hq e = absurd (omega arith)
       go true false q hp hr hq e = absurd (omega arith)
@@ -163,7 +166,7 @@ module _ (program ram : List ℕ) (s : State) (first second : ℕ) where
       go true true true hp hr hq e = record { program-allowed = hp; ram-allowed = hr; state-permitted = hq }
 
   -- Every chip has 64 bytes of RAM at least.
-  pub roomy : lentNumber (length program) (length ram) s ≡ 0 → 64 ≤ length ram
+  pub roomy : lentOf program ram s ≡ 0 → 64 ≤ length ram
   roomy e = go (eqb (length ram) 64) (eqb (length ram) 128) (eqb (length ram) 256) refl refl refl (allowed e .ram-allowed)
     where
       go :
@@ -175,37 +178,37 @@ module _ (program ram : List ℕ) (s : State) (first second : ℕ) where
       go false false false p q r h = absurd (false≢true h)
 
   -- Where 1, 2 and 3 are not given, the samples alone decide.
-  pub samples-decide : lentNumber (length program) (length ram) s ≡ 0 → admission (length program) (length ram) s first second ≡ sampleNumber first second
+  pub samples-decide : lentOf program ram s ≡ 0 → admission program ram s first second ≡ sampleNumber first second
   unfolding admission pick
   samples-decide h = rw h
 
   -- Where one of them is given, it is the step's.
   pub lent-refuses :
-      (lentNumber (length program) (length ram) s ≡ 0 → ⊥)
-      → (stepOf program ram s first second ≡ record { number = lentNumber (length program) (length ram) s; state = s; event = Quiet; cycles = 0 })
+      (lentOf program ram s ≡ 0 → ⊥)
+      → (stepOf program ram s first second ≡ record { number = lentOf program ram s; state = s; event = Quiet; cycles = 0; used = 0 })
       × (ramAfter program ram s first second ≡ ram)
   unfolding course admission declined planBy written pick
-  lent-refuses z = (simp (ne-eqb (lentNumber (length program) (length ram) s) 0 z), simp (ne-eqb (lentNumber (length program) (length ram) s) 0 z))
+  lent-refuses z = (simp (ne-eqb (lentOf program ram s) 0 z), simp (ne-eqb (lentOf program ram s) 0 z))
 
-  pub admitted-stands : admission (length program) (length ram) s first second ≡ 0 → lentNumber (length program) (length ram) s ≡ 0
+  pub admitted-stands : admission program ram s first second ≡ 0 → lentOf program ram s ≡ 0
   unfolding admission pick
-  admitted-stands e = go (eqb (lentNumber (length program) (length ram) s) 0) refl e
+  admitted-stands e = go (eqb (lentOf program ram s) 0) refl e
     where
       go :
-          (p : Bool) → eqb (lentNumber (length program) (length ram) s) 0 ≡ p
-          → pick (not p) (lentNumber (length program) (length ram) s) (pick (not (sampleAllowed first && sampleAllowed second)) 6 0) ≡ 0
-          → lentNumber (length program) (length ram) s ≡ 0
+          (p : Bool) → eqb (lentOf program ram s) 0 ≡ p
+          → pick (not p) (lentOf program ram s) (pick (not (sampleAllowed first && sampleAllowed second)) 6 0) ≡ 0
+          → lentOf program ram s ≡ 0
       go true h e = eqb-true _ _ h
       go false h e = e
 
   -- And 6.
-  admission-gives : (n : ℕ) → admission (length program) (length ram) s first second ≡ n → (n ≡ 0 → ⊥) → G n
+  admission-gives : (n : ℕ) → admission program ram s first second ≡ n → (n ≡ 0 → ⊥) → G n
   unfolding admission pick
-  admission-gives n e z = go (eqb (lentNumber (length program) (length ram) s) 0) (sampleAllowed first && sampleAllowed second) refl refl e
+  admission-gives n e z = go (eqb (lentOf program ram s) 0) (sampleAllowed first && sampleAllowed second) refl refl e
     where
       go :
-          (p q : Bool) → eqb (lentNumber (length program) (length ram) s) 0 ≡ p → (sampleAllowed first && sampleAllowed second) ≡ q
-          → pick (not p) (lentNumber (length program) (length ram) s) (pick (not q) 6 0) ≡ n → G n
+          (p q : Bool) → eqb (lentOf program ram s) 0 ≡ p → (sampleAllowed first && sampleAllowed second) ≡ q
+          → pick (not p) (lentOf program ram s) (pick (not q) 6 0) ≡ n → G n
       go false q hp hq e = lent-gives n e z
       go true false hp hq e =
           let h = allowed (eqb-true _ _ hp) in
@@ -215,13 +218,13 @@ module _ (program ram : List ℕ) (s : State) (first second : ℕ) where
   -- 5, 4, 5.
   answer-gives : Fetches program ram s first second → (n : ℕ) → instructionAt program (s .pc) ≡ refused n → G n
   unfolding instructionAt decodedAt pick
-  answer-gives f n e = go (lacks program (s .pc)) (eqb size 0) (eqb size 1) (lacks program (nextPc (s .pc))) refl refl refl refl _ _ e
+  answer-gives f n e = go (lacks (program .bytes) (s .pc)) (eqb size 0) (eqb size 1) (lacks (program .bytes) (nextPc (s .pc))) refl refl refl refl _ _ e
     where
       size : ℕ
-      size = entryOf (byteAt program (s .pc)) .bytes
+      size = entryAt program (s .pc) .bytes
 
       go :
-          (q p t u : Bool) → lacks program (s .pc) ≡ q → eqb size 0 ≡ p → eqb size 1 ≡ t → lacks program (nextPc (s .pc)) ≡ u
+          (q p t u : Bool) → lacks (program .bytes) (s .pc) ≡ q → eqb size 0 ≡ p → eqb size 1 ≡ t → lacks (program .bytes) (nextPc (s .pc)) ≡ u
           → (x y : Sized) → pick q (refused 5) (pick p (refused 4) (pick t (given x) (pick u (refused 5) (given y)))) ≡ refused n → G n
       go true p t u hq hp ht hu x y e = given-by (cc) (no-first-byte f hq)
       go false true t u hq hp ht hu x y e = given-by (cc) (undefined-code f hq hp)
@@ -238,49 +241,59 @@ module _ (program ram : List ℕ) (s : State) (first second : ℕ) where
       go (given (sized i k)) h e = table (eqb (effect .number) 0) refl e
         where
           effect : Effect
-          effect = executed i program ram (withPc s (pcAfter k (s .pc))) (s .pc) first second
+          effect = executed i (program .bytes) ram (runningAt s (pcAfter k (s .pc))) (s .pc) first second
 
-          table : (b : Bool) → eqb (effect .number) 0 ≡ b → pick b (accepted effect (entryOf (byteAt program (s .pc)) .cycles)) (declined (effect .number) s) .number ≡ n → G n
+          table : (b : Bool) → eqb (effect .number) 0 ≡ b → pick b (accepted effect (entryAt program (s .pc) .cycles)) (declined (effect .number) s) .number ≡ n → G n
           table true t e = absurd (z (sym e))
           table false t e =
-              let l = numbered program ram (withPc s (pcAfter k (s .pc))) (s .pc) first second i (eqb-false _ _ t) in
+              let l = numbered (program .bytes) ram (runningAt s (pcAfter k (s .pc))) (s .pc) first second i (eqb-false _ _ t) in
               given-by (sym (l .five) ∙ e) (no-table-byte i k (l .at) f h (l .table-byte) (l .none-there))
 
   -- A step that gives a number has the table's reason for it.
   pub exactly-from : (n : ℕ) → stepOf program ram s first second .number ≡ n → (n ≡ 0 → ⊥) → G n
-  unfolding course accepted declined pick
+  unfolding course accepted declined waits pick
   exactly-from n e z =
-      go (eqb number 0) (isLow resetPin first) (externalCalls s first) (timerCalls s) refl refl refl refl
+      go (eqb number 0) (isLow resetPin first) (isWaiting (s .mode)) (externalCalls s first) (timerCalls s) refl refl refl refl refl
       (sym (number-of (course program ram s first second) s first second) ∙ e)
     where
       number : ℕ
-      number = admission (length program) (length ram) s first second
+      number = admission program ram s first second
 
       go :
-          (p q r t : Bool) → eqb number 0 ≡ p → isLow resetPin first ≡ q → externalCalls s first ≡ r → timerCalls s ≡ t
-          → pick (not p) (declined number s) (pick q (accepted (quiet (resetState s)) 1) (pick r (accepted (called s 3) 2)
-          (pick t (accepted (called (withoutRequest s) 7) 2) (carried program ram s first second)))) .number ≡ n → G n
-      go false q r t hp hq hr ht e = admission-gives n e z
-      go true true r t hp hq hr ht e = absurd (z (sym e))
-      go true false true t hp hq hr ht e = absurd (z (sym e))
-      go true false false true hp hq hr ht e = absurd (z (sym e))
-      go true false false false hp hq hr ht e =
-          carried-gives (record { admitted = eqb-true _ _ hp; running = hq; no-external = hr; no-timer = ht }) n e z
+          (p q w r t : Bool) → eqb number 0 ≡ p → isLow resetPin first ≡ q → isWaiting (s .mode) ≡ w → externalCalls s first ≡ r → timerCalls s ≡ t
+          → pick (not p) (declined number s) (pick q (accepted (quiet (resetState s)) 1) (pick w (waits s first)
+          (pick r (accepted (called s 3) 2)
+          (pick t (accepted (called (withoutRequest s) 7) 2) (carried program ram s first second))))) .number ≡ n → G n
+      go false q w r t hp hq hw hr ht e = admission-gives n e z
+      go true true w r t hp hq hw hr ht e = absurd (z (sym e))
+      go true false true r t hp hq hw hr ht e = absurd (z (sym e))
+      go true false false true t hp hq hw hr ht e = absurd (z (sym e))
+      go true false false false true hp hq hw hr ht e = absurd (z (sym e))
+      go true false false false false hp hq hw hr ht e =
+          carried-gives (record { admitted = eqb-true _ _ hp; no-reset = hq; no-wait = hw; no-external = hr; no-timer = ht }) n e z
 
   -- And where the table has a reason, the step gives the number.
-  not-admitted : (n : ℕ) → admission (length program) (length ram) s first second ≡ n → (n ≡ 0 → ⊥) → course program ram s first second .number ≡ n
+  not-admitted : (n : ℕ) → admission program ram s first second ≡ n → (n ≡ 0 → ⊥) → course program ram s first second .number ≡ n
   unfolding course declined pick
   not-admitted n e z = rw (e, ne-eqb _ _ z)
 
-  comes-to : Fetches program ram s first second → course program ram s first second ≡ carried program ram s first second
+  -- A step that is accepted was admitted.
+  pub admitted : course program ram s first second .number ≡ 0 → admission program ram s first second ≡ 0
+  admitted a = go (eqb (admission program ram s first second) 0) refl
+    where
+      go : (p : Bool) → eqb (admission program ram s first second) 0 ≡ p → admission program ram s first second ≡ 0
+      go true h = eqb-true _ _ h
+      go false h = sym (not-admitted _ refl (eqb-false _ _ h)) ∙ a
+
+  pub comes-to : Fetches program ram s first second → course program ram s first second ≡ carried program ram s first second
   unfolding course pick
-  comes-to f = rw (f .admitted, f .running, f .no-external, f .no-timer)
+  comes-to f = rw (f .admitted, f .no-reset, f .no-wait, f .no-external, f .no-timer)
 
   reads : Fetches program ram s first second → (n : ℕ) → instructionAt program (s .pc) ≡ refused n → course program ram s first second .number ≡ n
   unfolding carried declined
   reads f n e = rw (comes-to f, e)
 
-  five : (i : Instruction) (k at : ℕ) → TableByte (s .pc) (s .a) i at → lacks program at ≡ true → executed i program ram (withPc s (pcAfter k (s .pc))) (s .pc) first second .number ≡ 5
+  five : (i : Instruction) (k at : ℕ) → TableByte (s .pc) (s .a) i at → lacks (program .bytes) at ≡ true → executed i (program .bytes) ram (runningAt s (pcAfter k (s .pc))) (s .pc) first second .number ≡ 5
   unfolding executed pick
   five i k at of-movp l = rw l
   five i k at of-movp3 l = rw l
@@ -288,7 +301,7 @@ module _ (program ram : List ℕ) (s : State) (first second : ℕ) where
 
   table :
       (i : Instruction) (k : ℕ) → instructionAt program (s .pc) ≡ given (sized i k)
-      → executed i program ram (withPc s (pcAfter k (s .pc))) (s .pc) first second .number ≡ 5 → carried program ram s first second .number ≡ 5
+      → executed i (program .bytes) ram (runningAt s (pcAfter k (s .pc))) (s .pc) first second .number ≡ 5 → carried program ram s first second .number ≡ 5
   unfolding carried done declined pick
   table i k e t = rw (e, t)
 

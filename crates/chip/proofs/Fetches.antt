@@ -1,30 +1,42 @@
 -- What is fetched is what is read: a law for each way that the fetch may end.
 -- Assumes nothing.
 use Prim.Native.Nat.{ℕ, _<_, _≤_}
+use mathlib.Core.Bool.{false}
 use mathlib.Core.List.{List}
 use mathlib.Core.Path.{_≡_, refl, _∙_}
 use native.Mathlib.Omega.{arith}
 use lib.ListN.{length, getD}
 use borrow.Author.Tests.{le-leb, lt-leb, eq-eqb, ne-eqb}
 use Rattle.isa.specs.Choice.{pick}
-use Rattle.isa.specs.Reading.{nextPc, byteAt, instructionAt, decodedAt}
-use Rattle.isa.specs.Sheet.{entryOf}
+use Rattle.isa.specs.Numbers.{given}
+use Rattle.isa.specs.Reading.{Program, entryAt, nextPc, byteAt, instructionAt, decodedAt, sized, lacks}
+use Rattle.isa.specs.Sheet.{entryOf, instructionOf}
 use Rattle.isa.specs.Table.{packedRows, unpacked}
+use Rattle.isa.specs.declared.Instruction.{Instruction}
+use Rattle.isa.specs.declared.Set.{Set}
 use Rattle.isa.specs.declared.table.Entry.{Entry}
 use Rattle.isa.proofs.Entries.{entry-held}
 use Rattle.chip.specs.Step.{Fetched}
 use Rattle.chip.specs.declared.Fetch.{Fetch}
 
 -- The lent table has the sheet's entry of a code.
-pub entry-is : {table : List ℕ} {e : Entry} (b : ℕ) → table ≡ packedRows → b < 256 → e ≡ unpacked (getD table b 0) → e ≡ entryOf b
-entry-is b p h q = q ∙ rw p (entry-held b h)
+pub entry-is :
+    {table : List ℕ} {e : Entry} (set : Set) (b : ℕ) → table ≡ packedRows set → b < 256 → e ≡ unpacked (getD table b 0) → e ≡ entryOf set b
+entry-is set b p h q = q ∙ rw p (entry-held set b h)
+
+-- A code of one byte is read as the set's instruction of that code.
+pub reads-one :
+    (program : Program) (a b : ℕ) (i : Instruction) → lacks (program .bytes) a ≡ false → byteAt (program .bytes) a ≡ b
+    → ((set : Set) → (entryOf set b .bytes ≡ 1) × (instructionOf set b 0 ≡ i)) → instructionAt program a ≡ given (sized i 1)
+unfolding instructionAt decodedAt pick
+reads-one program a b i l e f = rw (l, e, f (program .set) .0, f (program .set) .1)
 
 -- A refusal.
 abbrev none : ℕ → Fetch
 none n = record { number = n; kind = 0; code = 0; second = 0; bytes = 0; next = 0; cycles = 0 }
 
-module _ (program : List ℕ) (pc : ℕ) where
-  pub no-first : {n : ℕ} → n ≡ 5 → length program ≤ pc → Fetched program pc (none n)
+module _ (program : Program) (pc : ℕ) where
+  pub no-first : {n : ℕ} → n ≡ 5 → length (program .bytes) ≤ pc → Fetched program pc (none n)
   unfolding instructionAt pick
   no-first p h =
       record {
@@ -35,7 +47,7 @@ module _ (program : List ℕ) (pc : ℕ) where
       }
 
   -- Below, e is the entry of the byte at pc.
-  module _ (e : Entry) (is : e ≡ entryOf (byteAt program pc)) (there : pc < length program) where
+  module _ (e : Entry) (is : e ≡ entryAt program pc) (there : pc < length (program .bytes)) where
     pub undefined : {n : ℕ} → n ≡ 4 → e .bytes ≡ 0 → Fetched program pc (none n)
     unfolding instructionAt decodedAt pick
     undefined p h =
@@ -47,7 +59,7 @@ module _ (program : List ℕ) (pc : ℕ) where
         }
 
     pub no-second :
-        {n k : ℕ} → n ≡ 5 → (e .bytes ≡ 0 → ⊥) → (e .bytes ≡ 1 → ⊥) → k ≡ nextPc pc → length program ≤ k → Fetched program pc (none n)
+        {n k : ℕ} → n ≡ 5 → (e .bytes ≡ 0 → ⊥) → (e .bytes ≡ 1 → ⊥) → k ≡ nextPc pc → length (program .bytes) ≤ k → Fetched program pc (none n)
     unfolding instructionAt decodedAt pick
     no-second p h i q l =
         record {
@@ -59,7 +71,7 @@ module _ (program : List ℕ) (pc : ℕ) where
 
     pub one-byte :
         {k : ℕ} → e .bytes ≡ 1 → k ≡ nextPc pc
-        → Fetched program pc (record { number = 0; kind = e .kind; code = byteAt program pc; second = 0; bytes = 1; next = k; cycles = e .cycles })
+        → Fetched program pc (record { number = 0; kind = e .kind; code = byteAt (program .bytes) pc; second = 0; bytes = 1; next = k; cycles = e .cycles })
     unfolding instructionAt decodedAt pick
     one-byte h q =
         let some : e .bytes ≡ 0 → ⊥ = λ z. omega arith in
@@ -71,9 +83,9 @@ module _ (program : List ℕ) (pc : ℕ) where
         }
 
     pub two-bytes :
-        {k m : ℕ} → (e .bytes ≡ 0 → ⊥) → (e .bytes ≡ 1 → ⊥) → k ≡ nextPc pc → k < length program → m ≡ nextPc k
+        {k m : ℕ} → (e .bytes ≡ 0 → ⊥) → (e .bytes ≡ 1 → ⊥) → k ≡ nextPc pc → k < length (program .bytes) → m ≡ nextPc k
         → Fetched program pc
-        (record { number = 0; kind = e .kind; code = byteAt program pc; second = byteAt program k; bytes = 2; next = m; cycles = e .cycles })
+        (record { number = 0; kind = e .kind; code = byteAt (program .bytes) pc; second = byteAt (program .bytes) k; bytes = 2; next = m; cycles = e .cycles })
     unfolding instructionAt decodedAt pick
     two-bytes h i q l r =
         record {

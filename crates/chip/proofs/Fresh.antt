@@ -10,14 +10,15 @@ use lib.ListN.{List·getD-eq-default}
 use borrow.Author.Tests.{eqb-false, eq-eqb, not-true, ltb-true, ltb-false}
 use Rattle.isa.specs.Choice.{pick}
 use Rattle.isa.specs.Numbers.{Answer, given, refused}
-use Rattle.isa.specs.Reading.{Sized, sized, byteAt, instructionAt}
+use Rattle.isa.specs.Reading.{Program, entryAt, Sized, sized, byteAt, instructionAt}
 use Rattle.isa.specs.Sheet.{Row, rows, undefinedRow, rowOf, operandIn, kindOf, entryOf, instructionOf}
 use Rattle.isa.specs.declared.Condition.the-variants.{Jb}
 use Rattle.isa.specs.declared.Instruction.{Instruction}
 use Rattle.isa.specs.declared.Instruction.the-variants.{Branch}
+use Rattle.isa.specs.declared.Set.{Set}
 use Rattle.isa.proofs.Everywhere.{everywhere}
 use Rattle.isa.proofs.Finding.{Found, alone, paired, found, refused-some}
-use Rattle.machine.specs.State.{powerUp, withCore, withPc, withCounting}
+use Rattle.machine.specs.State.{powerUp, withCore, runningAt, withCounting}
 use Rattle.machine.specs.declared.Counting.{Counting}
 use Rattle.machine.specs.declared.Counting.the-variants.{Stopped, Timer}
 use Rattle.machine.specs.declared.State.{State}
@@ -28,7 +29,7 @@ use Rattle.flow.specs.Stack.{pushed}
 use Rattle.execute.specs.Execute.{executed}
 use Rattle.execute.specs.Setting.{LeavesCounter}
 use Rattle.execute.proofs.Keeping.{keeps}
-use Rattle.chip.specs.Step.{Course, declined, accepted, called, pcAfter, done, carriedBy, carried, course}
+use Rattle.chip.specs.Step.{Course, declined, accepted, waits, called, pcAfter, done, carriedBy, carried, course}
 use Rattle.chip.proofs.Choices.{either}
 
 -- What an instruction does to the counter of one state, which counts cycles, holds 0, and has A = 1: enough to tell those that set it.
@@ -74,26 +75,26 @@ bit-unset b d = go (eqb (1 / 2 ^ (b % 8) % 2) 1)
 -- None of the sheet's instructions of two cycles sets the counter. (Row 27 is JBb.)
 row-leaves : (k n d : ℕ) → rowOf k .cycles ≡ 2 → LeavesCounter (rowOf k .make n d)
 unfolding told executed pushed pick
-row-leaves k n d two = go (ltb k 97) refl
+row-leaves k n d two = go (ltb k 99) refl
   where
-    go : (p : Bool) → ltb k 97 ≡ p → LeavesCounter (rowOf k .make n d)
+    go : (p : Bool) → ltb k 99 ≡ p → LeavesCounter (rowOf k .make n d)
     go true h =
         leaves (rowOf k .make n d)
         (rw (eq-eqb _ _ two) at
-        (everywhere (λ k. pick (eqb (rowOf k .cycles) 2) (told (rowOf k .make n d)) unset) (λ k. pick (eqb k 27) (told (Branch (Jb n) d)) unset) 97 refl k (ltb-true k 97 h))
+        (everywhere (λ k. pick (eqb (rowOf k .cycles) 2) (told (rowOf k .make n d)) unset) (λ k. pick (eqb k 27) (told (Branch (Jb n) d)) unset) 99 refl k (ltb-true k 99 h))
         ∙ either (λ (x : Told). x ≡ unset) (eqb k 27) _ _ (λ t. bit-unset n d) (λ t. refl))
     go false h =
-        let past : rowOf k ≡ undefinedRow = List·getD-eq-default (undefinedRow ∷ rows) undefinedRow (ltb-false k 97 h) in
+        let past : rowOf k ≡ undefinedRow = List·getD-eq-default (undefinedRow ∷ rows) undefinedRow (ltb-false k 99 h) in
         let never : _≡_ {A = ℕ} 0 2 = ap (λ (r : Row). r .cycles) (sym past) ∙ two in
         absurd (omega arith)
 
-code-leaves : (b d : ℕ) → entryOf b .cycles ≡ 2 → LeavesCounter (instructionOf b d)
+code-leaves : (set : Set) (b d : ℕ) → entryOf set b .cycles ≡ 2 → LeavesCounter (instructionOf set b d)
 unfolding entryOf
-code-leaves b d two = row-leaves (kindOf b) (operandIn (rowOf (kindOf b) .place) b) d two
+code-leaves set b d two = row-leaves (kindOf set b) (operandIn (rowOf (kindOf set b) .place) b) d two
 
-found-leaves : (program : List ℕ) (a : ℕ) (i : Instruction) (n : ℕ) → Found program a i n → entryOf (byteAt program a) .cycles ≡ 2 → LeavesCounter i
-found-leaves program a i n (alone h p q j) two = subst LeavesCounter j (code-leaves (byteAt program a) _ two)
-found-leaves program a i n (paired h p q l j) two = subst LeavesCounter j (code-leaves (byteAt program a) _ two)
+found-leaves : (program : Program) (a : ℕ) (i : Instruction) (n : ℕ) → Found program a i n → entryAt program a .cycles ≡ 2 → LeavesCounter i
+found-leaves program a i n (alone h p q j) two = subst LeavesCounter j (code-leaves (program .set) (byteAt (program .bytes) a) _ two)
+found-leaves program a i n (paired h p q l j) two = subst LeavesCounter j (code-leaves (program .set) (byteAt (program .bytes) a) _ two)
 
 pub record Once (c : Course) : Type 0 where
   pub once : c .number ≡ 0 → c .cycles ≡ 2 → c .fresh ≡ false
@@ -106,6 +107,10 @@ accepted-once : (e : Effect) (cycles : ℕ) → (cycles ≡ 2 → e .fresh ≡ f
 unfolding accepted
 accepted-once e cycles f = record { once = λ z. f }
 
+waits-once : (s : State) (first : ℕ) → Once (waits s first)
+unfolding waits
+waits-once s first = record { once = λ z two. refl }
+
 called-once : (s : State) (vector : ℕ) → called s vector .fresh ≡ false
 unfolding called pushed
 called-once s vector = refl
@@ -114,7 +119,7 @@ done-once : (e : Effect) (cycles : ℕ) (s : State) → (cycles ≡ 2 → e .fre
 unfolding done
 done-once e cycles s f = either Once _ _ _ (λ t. accepted-once e cycles f) (λ t. declined-once _ s (eqb-false _ _ t))
 
-carried-once : (program ram : List ℕ) (s : State) (first second : ℕ) → Once (carried program ram s first second)
+carried-once : (program : Program) (ram : List ℕ) (s : State) (first second : ℕ) → Once (carried program ram s first second)
 unfolding carried
 carried-once program ram s first second = go (instructionAt program (s .pc)) refl
   where
@@ -122,13 +127,14 @@ carried-once program ram s first second = go (instructionAt program (s .pc)) ref
     go (refused n) e = declined-once n s (refused-some program (s .pc) n e)
     go (given (sized i n)) e =
         done-once _ _ s
-        (λ two. keeps i program ram (withPc s (pcAfter n (s .pc))) (s .pc) first second (found-leaves program (s .pc) i n (found program (s .pc) i n e) two) .1)
+        (λ two. keeps i (program .bytes) ram (runningAt s (pcAfter n (s .pc))) (s .pc) first second .counted (found-leaves program (s .pc) i n (found program (s .pc) i n e) two))
 
-pub course-once : (program ram : List ℕ) (s : State) (first second : ℕ) → Once (course program ram s first second)
+pub course-once : (program : Program) (ram : List ℕ) (s : State) (first second : ℕ) → Once (course program ram s first second)
 unfolding course
 course-once program ram s first second =
     either Once _ _ _ (λ t. declined-once _ s (eqb-false _ _ (not-true _ t)))
     (λ t. either Once _ _ _ (λ u. accepted-once _ _ (λ two. refl))
-    (λ u. either Once _ _ _ (λ v. accepted-once _ _ (λ two. called-once s 3))
+    (λ u. either Once _ _ _ (λ h. waits-once s first)
+    (λ h. either Once _ _ _ (λ v. accepted-once _ _ (λ two. called-once s 3))
     (λ v. either Once _ _ _ (λ w. accepted-once _ _ (λ two. called-once _ 7))
-    (λ w. carried-once program ram s first second))))
+    (λ w. carried-once program ram s first second)))))

@@ -11,12 +11,14 @@ pub mod Fresh
 pub mod Lasting
 pub mod Laws
 pub mod Linking
+pub mod Modes
 pub mod Once
 pub mod Overflows
 pub mod Parts
 pub mod Runs
 pub mod Sharp
+pub mod Standby
 pub mod Starting
 pub mod Story
 pub mod TableBytes
-mod Turns
+pub mod Turns

@@ -3,21 +3,22 @@
 use Prim.Native.Nat.{ℕ, zero, suc, _+_, _≤_, _<_}
 use mathlib.Core.Bool.{Bool, true, false}
 use mathlib.Core.List.{List}
-use mathlib.Core.Path.{_≡_, refl, sym, ap, _∙_, subst}
+use mathlib.Core.Path.{_≡_, refl, sym, _∙_, subst}
 use native.Mathlib.Omega.{arith}
 use lib.Dec.{eqb, leb}
 use lib.ListN.{length, drop}
 use borrow.Author.Tests.{eq-eqb, eqb-true, eqb-false, leb-true, leb-false}
+use Rattle.isa.specs.Reading.{Program}
 use Rattle.isa.specs.Choice.{pick}
 use Rattle.machine.specs.declared.State.{State}
-use Rattle.chip.specs.Admission.{lentNumber}
-use Rattle.chip.specs.History.{planAt, after, Steps, none, more, firstOf, secondOf, Reads, HistoryOf}
+use Rattle.chip.specs.Admission.{lentOf}
+use Rattle.chip.specs.History.{planAt, after, Steps, none, more, waitsIn, firstOf, secondOf, Reads, HistoryOf}
 use Rattle.chip.specs.Run.{Progress, Ended, begun, runOver, runOf}
-use Rattle.chip.proofs.Cycles.{one-or-two}
+use Rattle.chip.proofs.Cycles.{one-or-two, samples-used}
 use Rattle.chip.proofs.Runs.{run-short, run-refused, run-step}
 
 step-through :
-    (program samples : List ℕ) (k : Progress) (first second : ℕ) → first ≡ firstOf samples k → second ≡ secondOf samples k
+    (program : Program) (samples : List ℕ) (k : Progress) (first second : ℕ) → first ≡ firstOf samples k → second ≡ secondOf samples k
     → k .used + 2 ≤ length samples → planAt program k first second .number ≡ 0
     → runOver program (drop (k .used) samples) k
     ≡ runOver program (drop (after program k first second .used) samples) (after program k first second)
@@ -26,18 +27,21 @@ step-through program samples k first second p q l a =
 
 -- A run goes through the end of every history that reads its samples.
 pub over-through :
-    {program ram : List ℕ} {s : State} {k : Progress} (samples : List ℕ) (h : Steps program ram s k) → Reads samples h
+    {program : Program} {ram : List ℕ} {s : State} {k : Progress} (samples : List ℕ) (h : Steps program ram s k) → Reads samples h
     → runOver program samples (begun ram s) ≡ runOver program (drop (k .used) samples) k
 over-through samples none d = refl
 over-through {program} samples (more {k = k} first second h a) d =
     over-through samples h (d .0) ∙ step-through program samples k first second (d .1) (d .2) (d .3) a
 
--- Each cycle of a history uses one sample.
-pub sample-a-cycle : {program ram : List ℕ} {s : State} {k : Progress} → Steps program ram s k → k .used ≡ k .cycles
+-- Each cycle of a history uses one sample, and each wait.
+pub sample-a-cycle : {program : Program} {ram : List ℕ} {s : State} {k : Progress} (h : Steps program ram s k) → k .used ≡ k .cycles + waitsIn h
 sample-a-cycle none = refl
-sample-a-cycle {program} (more {k = k} first second h a) = ap (λ (n : ℕ). n + planAt program k first second .cycles) (sample-a-cycle h)
+sample-a-cycle {program} (more {k = k} first second h a) =
+    let before = sample-a-cycle h in
+    let this = samples-used program k first second a in
+    omega (arith, before, this)
 
-module _ (program ram : List ℕ) (s : State) (samples : List ℕ) where
+module _ (program : Program) (ram : List ℕ) (s : State) (samples : List ℕ) where
   -- The rest of a run, the steps h being done.
   rest : Progress → Ended
   rest k = runOver program (drop (k .used) samples) k
@@ -111,7 +115,7 @@ module _ (program ram : List ℕ) (s : State) (samples : List ℕ) where
   over-history = traced (length samples) (begun ram s) none tt (omega arith) (omega arith)
 
   -- So has every run that 1, 2 and 3 do not refuse.
-  module _ (admitted : lentNumber (length program) (length ram) s ≡ 0) where
+  module _ (admitted : lentOf program ram s ≡ 0) where
     pub run-over : runOf program ram s samples ≡ runOver program samples (begun ram s)
     unfolding runOf pick
     run-over = rw (eq-eqb _ _ admitted)

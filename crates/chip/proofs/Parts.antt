@@ -7,12 +7,13 @@ use mathlib.Core.Path.{_≡_, refl, sym, _∙_}
 use native.Mathlib.Omega.{arith}
 use lib.Dec.{leb}
 use borrow.Author.Tests.{leb-true, leb-false, le-leb}
+use Rattle.isa.specs.Reading.{Program}
 use Rattle.isa.specs.Choice.{pick}
 use Rattle.machine.specs.declared.State.{State}
 use Rattle.chip.specs.History.{planAt, Steps, none, more, cycle, Reads, AllUndisturbed, History, longer, Begins, whole, then, StepWith}
 use Rattle.chip.specs.Run.{Progress}
 
-module _ {program ram : List ℕ} {s : State} where
+module _ {program : Program} {ram : List ℕ} {s : State} where
   pub begins-le : {p q : History program ram s} → Begins p q → p .end .cycles ≤ q .end .cycles
   begins-le whole = omega arith
   begins-le (then {q = q} first second a b) =

@@ -10,12 +10,14 @@ use lib.Dec.{eqb}
 use lib.ListN.{length, getD, drop, length-drop}
 use lib.Seq.{drop-cons}
 use borrow.Author.Tests.{eqb-true, eqb-false, eq-eqb, ne-eqb}
+use Rattle.isa.specs.Reading.{Program}
 use Rattle.isa.specs.Choice.{pick}
 use Rattle.effects.specs.Effect.{written}
 use Rattle.effects.specs.declared.Event.{Event}
 use Rattle.chip.specs.Run.{Progress, gone, lastFrom, ended, runOver}
 use Rattle.chip.specs.Step.{Plan, planOf, stepOf, ramAfter}
 use Rattle.chip.specs.declared.Outcome.{Outcome}
+use Rattle.chip.proofs.Cycles.{one-or-two, cycles-used}
 use Rattle.chip.proofs.Exactly.{refused-unchanged}
 use Rattle.chip.proofs.Lasting.{Busy, plan-busy}
 
@@ -24,13 +26,13 @@ pub last-more : (d e : Event) (es : List Event) → lastFrom d (es ++ (e ∷ [])
 last-more d e [] = refl
 last-more d e (f ∷ fs) = last-more f e fs
 
-short : (program xs : List ℕ) (m : Progress) → length xs ≤ 1 → runOver program xs m ≡ ended m 0
+short : (program : Program) (xs : List ℕ) (m : Progress) → length xs ≤ 1 → runOver program xs m ≡ ended m 0
 unfolding runOver
 short program [] m h = refl
 short program (x ∷ []) m h = refl
 short program (x ∷ (y ∷ zs)) m h = absurd (omega arith)
 
-module _ (program samples : List ℕ) (i : ℕ) (m : Progress) where
+module _ (program : Program) (samples : List ℕ) (i : ℕ) (m : Progress) where
   -- The step that comes next.
   abbrev pub next : Plan
   next = planOf program (m .ram) (m .state) (getD samples i 0) (getD samples (i + 1) 0)
@@ -52,13 +54,13 @@ module _ (program samples : List ℕ) (i : ℕ) (m : Progress) where
   run-refused h n = rw (two-left h, ne-eqb _ _ n)
 
   goes-one :
-      i + 1 < length samples → next .number ≡ 0 → next .cycles ≡ 1
+      i + 1 < length samples → next .number ≡ 0 → next .used ≡ 1
       → runOver program (drop i samples) m ≡ runOver program (getD samples (i + 1) 0 ∷ drop (suc (suc i)) samples) (gone m next)
   unfolding runOver pick
   goes-one h n e = rw (two-left h, eq-eqb _ _ n, eq-eqb _ _ e)
 
   goes-two :
-      i + 1 < length samples → next .number ≡ 0 → (next .cycles ≡ 1 → ⊥)
+      i + 1 < length samples → next .number ≡ 0 → (next .used ≡ 1 → ⊥)
       → runOver program (drop i samples) m ≡ runOver program (drop (suc (suc i)) samples) (gone m next)
   unfolding runOver pick
   goes-two h n e = rw (two-left h, eq-eqb _ _ n, ne-eqb _ _ e)
@@ -68,32 +70,36 @@ module _ (program samples : List ℕ) (i : ℕ) (m : Progress) where
 
   pub run-step :
       i + 1 < length samples → next .number ≡ 0
-      → runOver program (drop i samples) m ≡ runOver program (drop (i + next .cycles) samples) (gone m next)
-  run-step h n = go (eqb (next .cycles) 1) refl
+      → runOver program (drop i samples) m ≡ runOver program (drop (i + next .used) samples) (gone m next)
+  run-step h n = go (eqb (next .used) 1) refl
     where
-      go : (b : Bool) → eqb (next .cycles) 1 ≡ b → runOver program (drop i samples) m ≡ runOver program (drop (i + next .cycles) samples) (gone m next)
+      go : (b : Bool) → eqb (next .used) 1 ≡ b → runOver program (drop i samples) m ≡ runOver program (drop (i + next .used) samples) (gone m next)
       go true t =
-          let e : next .cycles ≡ 1 = eqb-true _ _ t in
-          let j : suc i ≡ i + next .cycles = omega arith in
+          let e : next .used ≡ 1 = eqb-true _ _ t in
+          let j : suc i ≡ i + next .used = omega arith in
           goes-one h n e ∙ ap (λ l. runOver program l (gone m next)) (sym (one-left (omega arith)) ∙ ap (λ k. drop k samples) j)
       go false t =
-          let e : next .cycles ≡ 1 → ⊥ = eqb-false _ _ t in
-          let some : 1 ≤ next .cycles = busy .some n in
-          let few : next .cycles ≤ 2 = busy .few n in
-          let j : suc (suc i) ≡ i + next .cycles = omega arith in
+          let e : next .used ≡ 1 → ⊥ = eqb-false _ _ t in
+          let o = one-or-two program m (getD samples i 0) (getD samples (i + 1) 0) n in
+          let j : suc (suc i) ≡ i + next .used = omega (arith, o .0, o .1) in
           goes-two h n e ∙ ap (λ k. runOver program (drop k samples) (gone m next)) j
 
   -- The same of what a call of the step answered and the RAM that it left.
   module _ (r : Outcome) (left : List ℕ)
       (er : r ≡ stepOf program (m .ram) (m .state) (getD samples i 0) (getD samples (i + 1) 0))
       (el : left ≡ ramAfter program (m .ram) (m .state) (getD samples i 0) (getD samples (i + 1) 0)) where
-    pub spent : r .number ≡ 0 → (1 ≤ r .cycles) × (r .cycles ≤ 2)
-    spent n = rw er (busy .some (rw er at n), busy .few (rw er at n))
+    -- It used one sample or two, and no more cycles.
+    pub spent : r .number ≡ 0 → (1 ≤ r .used) × (r .used ≤ 2) × (r .cycles ≤ r .used)
+    spent n =
+        let a : next .number ≡ 0 = rw er at n in
+        let o = one-or-two program m (getD samples i 0) (getD samples (i + 1) 0) a in
+        let w = cycles-used program m (getD samples i 0) (getD samples (i + 1) 0) a in
+        rw er (o .0, o .1, w)
 
     pub went :
         i + 1 < length samples → r .number ≡ 0
-        → runOver program (drop (i + r .cycles) samples)
-        (record { ram = left; state = r .state; used = m .used + r .cycles; cycles = m .cycles + r .cycles; events = m .events ++ (r .event ∷ []) })
+        → runOver program (drop (i + r .used) samples)
+        (record { ram = left; state = r .state; used = m .used + r .used; cycles = m .cycles + r .cycles; events = m .events ++ (r .event ∷ []) })
         ≡ runOver program (drop i samples) m
     went h n = rw (er, el) (sym (run-step h (rw er at n)))
 

@@ -1,27 +1,32 @@
--- The bound is attained, and the conditions of the third demand can be met together: for every c there is a run in which the call to 7
--- is complete exactly 3 cycles after the overflow. From c = 0 that is cycle 8,195. The program is STRT T and then the owner's loop of two-cycle
--- jumps after one NOP, so that the overflow falls into the first cycle of a jump.
+-- The bound is attained, and the conditions of the third demand can be met together, under either set: for every c there is a run in which the
+-- call to 7 is complete exactly 3 cycles after the overflow. From c = 0 that is cycle 8,195. The program is STRT T and then the owner's loop of
+-- two-cycle jumps after one NOP, so that the overflow falls into the first cycle of a jump; under NEC after one HALT, from which INT releases
+-- the machine.
 -- Assumes nothing.
 use Prim.Native.Nat.{ℕ, zero, suc, _+_, _-_, _*_, _≤_, _<_}
-use mathlib.Core.Bool.{Bool, true, false}
+use mathlib.Core.Bool.{Bool, true, false, false≢true}
 use mathlib.Core.List.{List}
 use mathlib.Core.Logic.{inl}
 use mathlib.Core.Path.{_≡_, refl, sym, ap, _∙_, subst}
 use native.Mathlib.Omega.{arith}
 use lib.Dec.{lit≤}
-use lib.ListN.{length, getD, set}
+use lib.ListN.{length, getD, set as put}
 use borrow.Author.Tests.{lt-ltb}
 use Rattle.isa.specs.Choice.{pick}
 use Rattle.isa.specs.Numbers.{given}
 use Rattle.isa.specs.Reading.{sized, byteAt, instructionAt, decodedAt}
+use Rattle.isa.specs.Sets.{Standby, halt, stop}
 use Rattle.isa.specs.Sheet.{kindOf, entryOf}
 use Rattle.isa.specs.declared.Instruction.{Instruction}
-use Rattle.isa.specs.declared.Instruction.the-variants.{Jmp, Control, Nop}
+use Rattle.isa.specs.declared.Instruction.the-variants.{Jmp, Control, Nop, Halt}
+use Rattle.isa.specs.declared.Set.{Set}
+use Rattle.isa.specs.declared.Set.the-variants.{Intel, Nec}
 use Rattle.isa.specs.declared.Switch.the-variants.{StrtT}
 use Rattle.machine.specs.Counting.{counted}
-use Rattle.machine.specs.State.{countOf, withCount, withPc}
+use Rattle.machine.specs.State.{countOf, withCount, withPc, withMode}
 use Rattle.machine.specs.declared.Count.{Count}
 use Rattle.machine.specs.declared.Counting.the-variants.{Timer}
+use Rattle.machine.specs.declared.Mode.the-variants.{HaltMode, Released}
 use Rattle.machine.specs.declared.State.{State}
 use Rattle.machine.proofs.Timing.{At, one-more, leaves-request}
 use Rattle.effects.specs.Effect.{Nothing, written}
@@ -29,17 +34,16 @@ use Rattle.effects.specs.declared.Event.the-variants.{Quiet}
 use Rattle.flow.specs.Stack.{pushed}
 use Rattle.execute.specs.Execute.{executed}
 use Rattle.execute.specs.Setting.{LeavesCounter}
-use Rattle.chip.specs.Admission.{lentNumber, admission}
+use Rattle.chip.specs.Admission.{lentNumber, lentOf, admission}
 use Rattle.chip.specs.Cases.{times, idle, blank}
-use Rattle.chip.specs.History.{planAt, after, none, more, cycle, Undisturbed, AllUndisturbed, JustStarted, History, longer, whole, StepWith, firstOf, secondOf, Reads, overflowCycle, Asked, next, Called, Met}
-use Rattle.chip.specs.Loop.{rom, ready, start, samples, Late}
+use Rattle.chip.specs.History.{planAt, none, cycle, CarriesOut, Undisturbed, AllUndisturbed, JustStarted, History, longer, whole, StepWith, firstOf, secondOf, Reads, overflowCycle, Asked, next, Called, Met}
+use Rattle.chip.specs.Loop.{rom, ready, start, intLow, samples, halted, Late}
 use Rattle.chip.specs.Refusals.{Fetches}
 use Rattle.chip.specs.Run.{Progress, begun, ended, runOf}
-use Rattle.chip.specs.Step.{Plan, accepted, called, withoutRequest, done, carried, course, ticked, settled, planBy, planOf, stepOf, ramAfter}
+use Rattle.chip.specs.Step.{Plan, accepted, waits, called, withoutRequest, done, carried, course, ticked, settled, planBy, planOf, stepOf, ramAfter}
 use Rattle.chip.proofs.Answering.{step-enabled}
 use Rattle.chip.proofs.Cycles.{Running, at-start, count-law}
 use Rattle.chip.proofs.Demand3.{called-in-time, from-strt-t}
-use Rattle.chip.proofs.Linking.{sample-a-cycle}
 use Rattle.chip.proofs.Overflows.{no-earlier}
 use Rattle.chip.proofs.Runs.{run-short}
 
@@ -50,22 +54,44 @@ looping x = withCount (withPc (start 0) 2) x
 abbrev once : Count → Count
 once x = counted Timer x true true
 
+-- The state after the first step, the mode aside.
+abbrev paused : ℕ → State
+paused c = looping (once (countOf (start c)))
+
 -- ---- the steps that this takes, by computation
-nop-plan : (c : ℕ) → planOf rom blank (start c) idle idle ≡ record { number = 0; state = looping (once (countOf (start c))); event = Quiet; write = Nothing; cycles = 1 }
+abbrev plan : State → ℕ → ℕ → Plan
+plan s cycles used = record { number = 0; state = s; event = Quiet; write = Nothing; cycles = cycles; used = used }
+
+nop-plan : (c : ℕ) → planOf (rom Intel) blank (start c) idle idle ≡ plan (paused c) 1 1
 unfolding planBy settled ticked course carried done accepted admission lentNumber executed instructionAt decodedAt entryOf kindOf pick
 nop-plan c = refl
 
-jump-plan :
-    (x : Count) → x .request ≡ false → x .divider < 32
-    → planOf rom blank (looping x) idle idle ≡ record { number = 0; state = looping (once (once x)); event = Quiet; write = Nothing; cycles = 2 }
+halt-plan : (c : ℕ) → planOf (rom Nec) blank (start c) idle intLow ≡ plan (withMode (paused c) HaltMode) 1 1
 unfolding planBy settled ticked course carried done accepted admission lentNumber executed instructionAt decodedAt entryOf kindOf pick
-jump-plan x e l = rw (e, lt-ltb _ _ l)
+halt-plan c = refl
+
+wait-plan : (c : ℕ) → planOf (rom Nec) blank (withMode (paused c) HaltMode) intLow idle ≡ plan (withMode (paused c) Released) 0 1
+unfolding planBy settled ticked course waits admission lentNumber pick
+wait-plan c = refl
+
+resume-plan : (c : ℕ) → planOf (rom Nec) blank (withMode (paused c) Released) idle idle ≡ plan (looping (once (once (once (countOf (start c)))))) 2 2
+unfolding planBy settled ticked course carried done accepted admission lentNumber executed instructionAt decodedAt entryOf kindOf pick
+resume-plan c = refl
+
+jump-plan :
+    (set : Set) (x : Count) → x .request ≡ false → x .divider < 32
+    → planOf (rom set) blank (looping x) idle idle ≡ plan (looping (once (once x))) 2 2
+unfolding planBy settled ticked course carried done accepted admission lentNumber executed instructionAt decodedAt entryOf kindOf pick
+jump-plan Intel x e l = rw (e, lt-ltb _ _ l)
+jump-plan Nec x e l = rw (e, lt-ltb _ _ l)
 
 -- With a request or without one, the step in the loop is accepted.
-loop-fine : (x : Count) (b : Bool) → x .request ≡ b → x .divider < 32 → planOf rom blank (looping x) idle idle .number ≡ 0
+loop-fine : (set : Set) (x : Count) (b : Bool) → x .request ≡ b → x .divider < 32 → planOf (rom set) blank (looping x) idle idle .number ≡ 0
 unfolding planBy settled ticked course carried done accepted called withoutRequest admission lentNumber executed pushed instructionAt decodedAt entryOf kindOf pick
-loop-fine x true e l = rw (e, lt-ltb _ _ l)
-loop-fine x false e l = rw (e, lt-ltb _ _ l)
+loop-fine Intel x true e l = rw (e, lt-ltb _ _ l)
+loop-fine Intel x false e l = rw (e, lt-ltb _ _ l)
+loop-fine Nec x true e l = rw (e, lt-ltb _ _ l)
+loop-fine Nec x false e l = rw (e, lt-ltb _ _ l)
 
 -- ---- no step is disturbed
 clash : _≡_ {A = ℕ} 0 1 → ⊥
@@ -74,25 +100,49 @@ clash z = omega arith
 nop-leaves : LeavesCounter Nop
 nop-leaves = record { no-strt-t = λ e. clash cc; no-strt-cnt = λ e. clash cc; no-stop-tcnt = λ e. clash cc; no-mov-t-a = λ e. clash cc }
 
+halt-leaves : LeavesCounter Halt
+halt-leaves = record { no-strt-t = λ e. clash cc; no-strt-cnt = λ e. clash cc; no-stop-tcnt = λ e. clash cc; no-mov-t-a = λ e. clash cc }
+
 jmp-leaves : (a : ℕ) → LeavesCounter (Jmp a)
 jmp-leaves a = record { no-strt-t = λ e. clash cc; no-strt-cnt = λ e. clash cc; no-stop-tcnt = λ e. clash cc; no-mov-t-a = λ e. clash cc }
 
-nop-there : instructionAt rom 1 ≡ given (sized Nop 1)
+jmp-awake : (a : ℕ) (i : Instruction) → i ≡ Jmp a → Standby i → ⊥
+jmp-awake a i e halt = clash cc
+jmp-awake a i e stop = clash cc
+
+nop-there : instructionAt (rom Intel) 1 ≡ given (sized Nop 1)
 unfolding instructionAt decodedAt entryOf kindOf pick
 nop-there = refl
 
-jmp-there : instructionAt rom 2 ≡ given (sized (Jmp 2) 2)
+halt-there : instructionAt (rom Nec) 1 ≡ given (sized Halt 1)
 unfolding instructionAt decodedAt entryOf kindOf pick
-jmp-there = refl
+halt-there = refl
 
-same : {i j : Instruction} {n m : ℕ} (a : ℕ) → instructionAt rom a ≡ given (sized i n) → instructionAt rom a ≡ given (sized j m) → i ≡ j
-same a p q = cc
+jmp-there : (set : Set) → instructionAt (rom set) 2 ≡ given (sized (Jmp 2) 2)
+unfolding instructionAt decodedAt entryOf kindOf pick
+jmp-there Intel = refl
+jmp-there Nec = refl
 
-nop-undisturbed : (c : ℕ) → Undisturbed rom (start c) idle
-nop-undisturbed c = record { no-reset = refl; none-of-four = λ e t i n h. subst LeavesCounter (same 1 nop-there h) nop-leaves }
+same : (set : Set) {i j : Instruction} {n m : ℕ} (a : ℕ) → instructionAt (rom set) a ≡ given (sized i n) → instructionAt (rom set) a ≡ given (sized j m) → i ≡ j
+same set a p q = cc
 
-loop-undisturbed : (x : Count) → Undisturbed rom (looping x) idle
-loop-undisturbed x = record { no-reset = refl; none-of-four = λ e t i n h. subst LeavesCounter (same 2 jmp-there h) (jmp-leaves 2) }
+pause-undisturbed : (set : Set) (c : ℕ) → Undisturbed (rom set) (start c) idle
+pause-undisturbed Intel c = record { no-reset = refl; none-of-four = λ i q. subst LeavesCounter (same Intel 1 nop-there (q .stands)) nop-leaves }
+pause-undisturbed Nec c = record { no-reset = refl; none-of-four = λ i q. subst LeavesCounter (same Nec 1 halt-there (q .stands)) halt-leaves }
+
+wait-undisturbed : (c : ℕ) → Undisturbed (rom Nec) (withMode (paused c) HaltMode) intLow
+wait-undisturbed c = record { no-reset = refl; none-of-four = λ i q. absurd (false≢true (sym (q .no-wait))) }
+
+resume-undisturbed : (c : ℕ) → Undisturbed (rom Nec) (withMode (paused c) Released) idle
+resume-undisturbed c =
+    record { no-reset = refl; none-of-four = λ i q. subst LeavesCounter (same Nec 2 (jmp-there Nec) (q .stands)) (jmp-leaves 2) }
+
+loop-undisturbed : (set : Set) (x : Count) → Undisturbed (rom set) (looping x) idle
+loop-undisturbed set x =
+    record { no-reset = refl; none-of-four = λ i q. subst LeavesCounter (same set 2 (jmp-there set) (q .stands)) (jmp-leaves 2) }
+
+loop-awake : (set : Set) (x : Count) (i : Instruction) → CarriesOut (rom set) (looping x) idle i → Standby i → ⊥
+loop-awake set x i q = jmp-awake 2 i (same set 2 (q .stands) (jmp-there set))
 
 -- ---- the samples
 times-length : (n x : ℕ) → length (times n x) ≡ n
@@ -104,16 +154,70 @@ times-at zero x i l = absurd (omega arith)
 times-at (suc n) x zero l = refl
 times-at (suc n) x (suc i) l = times-at n x i (omega arith)
 
--- ---- n jumps after the NOP
-record Waiting (c n : ℕ) : Type 0 where
-  history : History rom blank (start c)
-  count : Count
-  state : history .end .state ≡ looping count
+samples-length : (set : Set) (c : ℕ) → length (samples set c) ≡ overflowCycle c + 3 + halted set
+samples-length Intel c = times-length (overflowCycle c + 3) idle ∙ omega arith
+samples-length Nec c = ap (λ n. suc (suc n)) (times-length (overflowCycle c + 2) idle) ∙ omega arith
+
+-- From the third on all are idle.
+sample : (set : Set) (c i : ℕ) → 2 ≤ i → i < overflowCycle c + 3 + halted set → getD (samples set c) i 0 ≡ idle
+sample Intel c i l g = times-at (overflowCycle c + 3) idle i (omega arith)
+sample Nec c zero l g = absurd (omega arith)
+sample Nec c (suc zero) l g = absurd (omega arith)
+sample Nec c (suc (suc i)) l g = times-at (overflowCycle c + 2) idle i (omega arith)
+
+-- ---- what is reached by steps that read them
+record Reached (set : Set) (c : ℕ) (s : State) (cycles used : ℕ) : Type 0 where
+  history : History (rom set) blank (start c)
+  state : history .end .state ≡ s
   memory : history .end .ram ≡ blank
-  cycles : history .end .cycles ≡ 1 + 2 * n
-  none-stored : count .request ≡ false
+  spent : history .end .cycles ≡ cycles
+  samples-used : history .end .used ≡ used
   undisturbed : AllUndisturbed (history .steps)
-  reads : Reads (samples c) (history .steps)
+  reads : Reads (samples set c) (history .steps)
+
+module _ (set : Set) (c : ℕ) where
+  begin : Reached set c (start c) 0 0
+  begin =
+      record {
+        history = record { end = begun blank (start c); steps = none };
+        state = refl;
+        memory = refl;
+        spent = refl;
+        samples-used = refl;
+        undisturbed = tt;
+        reads = tt;
+      }
+
+  -- One step more.
+  module _ {s : State} {n u : ℕ} (r : Reached set c s n u) (first second : ℕ) (s' : State) (m v : ℕ)
+      (p : planOf (rom set) blank s first second ≡ plan s' m v) where
+    planned : planAt (rom set) (r .history .end) first second ≡ plan s' m v
+    planned = rw (r .memory, r .state) p
+
+    fine : planAt (rom set) (r .history .end) first second .number ≡ 0
+    fine = ap (λ (q : Plan). q .number) planned
+
+    module _ (q : Undisturbed (rom set) s first) (e : first ≡ getD (samples set c) u 0) (f : second ≡ getD (samples set c) (u + 1) 0)
+        (l : u + 2 ≤ length (samples set c)) where
+      on : Reached set c s' (n + m) (u + v)
+      unfolding written
+      on =
+          record {
+            history = longer (r .history) first second fine;
+            state = ap (λ (q : Plan). q .state) planned;
+            memory = rw planned (r .memory);
+            spent = rw (planned, r .spent);
+            samples-used = rw (planned, r .samples-used);
+            undisturbed = (r .undisturbed, rw (r .state) q);
+            reads = (r .reads, rw (r .samples-used) e, rw (r .samples-used) f, rw (r .samples-used) l);
+          }
+
+-- The pause and n jumps.
+record Waiting (set : Set) (c n : ℕ) : Type 0 where
+  count : Count
+  some : 1 ≤ n
+  reached : Reached set c (looping count) (1 + 2 * n) (1 + 2 * n + halted set)
+  none-stored : count .request ≡ false
 
 module _ (c : ℕ) (small : c < 256) where
   started : JustStarted c (start c)
@@ -128,216 +232,242 @@ module _ (c : ℕ) (small : c < 256) where
       leaves-request c (n + 1) (omega arith) x true true (subst (λ (i : ℕ). At c i x) (omega arith) h)
       (no-earlier c (n + 1) small (omega arith) l) ∙ e
 
-  sample : (i : ℕ) → i < overflowCycle c + 3 → getD (samples c) i 0 ≡ idle
-  sample i l = times-at (overflowCycle c + 3) idle i l
+  counted-at : {set : Set} {x : Count} {n u : ℕ} → Reached set c (looping x) n u → At c n x
+  counted-at {set} {x} {n} r =
+      subst (λ (s : State). At c n (countOf s)) (r .state)
+      (subst (λ (i : ℕ). At c i (countOf (r .history .end .state))) (r .spent) (count-law c (r .history .steps) (r .undisturbed) running .at))
 
-  enough : (i : ℕ) → i + 2 ≤ overflowCycle c + 3 → i + 2 ≤ length (samples c)
-  enough i l = rw times-length l
+  -- ---- the pause
+  enough : (set : Set) (i : ℕ) → i + 2 ≤ overflowCycle c + 3 + halted set → i + 2 ≤ length (samples set c)
+  enough set i l = rw (samples-length set c) l
 
-  first-wait : Waiting c 0
-  unfolding written
-  first-wait =
-      record {
-        history = record { end = after rom (begun blank (start c)) idle idle; steps = more idle idle none (ap (λ (p : Plan). p .number) (nop-plan c)) };
-        count = once (countOf (start c));
-        state = ap (λ (p : Plan). p .state) (nop-plan c);
-        memory = ap (λ (p : Plan). written blank (p .write)) (nop-plan c);
-        cycles = ap (λ (p : Plan). 0 + p .cycles) (nop-plan c);
-        none-stored = none-yet 0 (countOf (start c)) (running .at) (omega arith) refl;
-        undisturbed = (tt, nop-undisturbed c);
-        reads = (tt, sym (sample 0 (omega arith)), sym (sample 1 (omega arith)), enough 0 (omega arith));
-      }
+  first-count : At c 1 (once (countOf (start c)))
+  first-count = one-more c 0 (countOf (start c)) true true (running .at)
 
-  module _ (n : ℕ) (w : Waiting c n) where
-    at : At c (1 + 2 * n) (w .count)
-    at =
-        subst (λ (s : State). At c (1 + 2 * n) (countOf s)) (w .state)
-        (subst (λ (i : ℕ). At c i (countOf (w .history .end .state))) (w .cycles) (count-law c (w .history .steps) (w .undisturbed) running .at))
+  abbrev third : Count
+  third = once (once (once (countOf (start c))))
 
-    jumps : planAt rom (w .history .end) idle idle ≡ record { number = 0; state = looping (once (once (w .count))); event = Quiet; write = Nothing; cycles = 2 }
-    jumps = rw (w .memory, w .state) (jump-plan (w .count) (w .none-stored) (omega (arith, at .divider)))
+  third-none : third .request ≡ false
+  third-none =
+      none-yet 2 (once (once (countOf (start c)))) (one-more c 1 (once (countOf (start c))) true true first-count) (omega arith)
+      (none-yet 1 (once (countOf (start c))) first-count (omega arith) (none-yet 0 (countOf (start c)) (running .at) (omega arith) refl))
 
-    -- The history with one jump more.
-    jumped : History rom blank (start c)
-    jumped = longer (w .history) idle idle (ap (λ (p : Plan). p .number) jumps)
+  after-pause : (set : Set) → Reached set c (looping third) 3 (3 + halted set)
+  after-pause Intel =
+      on Intel c
+      (on Intel c (begin Intel c) idle idle (paused c) 1 1 (nop-plan c) (pause-undisturbed Intel c)
+      (sym (times-at (overflowCycle c + 3) idle 0 (omega arith))) (sym (times-at (overflowCycle c + 3) idle 1 (omega arith))) (enough Intel 0 (omega arith)))
+      idle idle (looping third) 2 2
+      (jump-plan Intel (once (countOf (start c))) (none-yet 0 (countOf (start c)) (running .at) (omega arith) refl) (lit≤ tt))
+      (loop-undisturbed Intel (once (countOf (start c))))
+      (sym (times-at (overflowCycle c + 3) idle 1 (omega arith))) (sym (sample Intel c 2 (omega arith) (omega arith))) (enough Intel 1 (omega arith))
+  after-pause Nec =
+      on Nec c
+      (on Nec c
+      (on Nec c (begin Nec c) idle intLow (withMode (paused c) HaltMode) 1 1 (halt-plan c) (pause-undisturbed Nec c) refl refl (enough Nec 0 (omega arith)))
+      intLow idle (withMode (paused c) Released) 0 1 (wait-plan c) (wait-undisturbed c)
+      refl (sym (sample Nec c 2 (omega arith) (omega arith))) (enough Nec 1 (omega arith)))
+      idle idle (looping third) 2 2 (resume-plan c) (resume-undisturbed c)
+      (sym (sample Nec c 2 (omega arith) (omega arith))) (sym (sample Nec c 3 (omega arith) (omega arith))) (enough Nec 2 (omega arith))
 
-    used : w .history .end .used ≡ 1 + 2 * n
-    used = sample-a-cycle (w .history .steps) ∙ w .cycles
+  -- ---- and the jumps
+  module _ (set : Set) where
+    first-wait : Waiting set c 1
+    first-wait = record { count = third; some = omega arith; reached = after-pause set; none-stored = third-none }
 
-    step-reads : 1 + 2 * n < overflowCycle c → Reads (samples c) (jumped .steps)
-    unfolding jumped
-    step-reads l = (
-      w .reads,
-      rw used (sym (sample (1 + 2 * n) (omega arith))),
-      rw used (sym (sample (1 + 2 * n + 1) (omega arith))),
-      rw used (enough (1 + 2 * n) (omega arith)),
-    )
+    module _ (n : ℕ) (w : Waiting set c n) where
+      at : At c (1 + 2 * n) (w .count)
+      at = counted-at (w .reached)
 
-    module _ (l : 1 + 2 * suc n < overflowCycle c) where
-      once-more : Waiting c (suc n)
-      unfolding jumped written
-      once-more =
+      jumps : planOf (rom set) blank (looping (w .count)) idle idle ≡ plan (looping (once (once (w .count)))) 2 2
+      jumps = jump-plan set (w .count) (w .none-stored) (omega (arith, at .divider))
+
+      module _ (l : 1 + 2 * n < overflowCycle c) where
+        jumped : Reached set c (looping (once (once (w .count)))) (1 + 2 * n + 2) (1 + 2 * n + halted set + 2)
+        jumped =
+            on set c (w .reached) idle idle (looping (once (once (w .count)))) 2 2 jumps (loop-undisturbed set (w .count))
+            (sym (sample set c (1 + 2 * n + halted set) (omega (arith, w .some)) (omega arith)))
+            (sym (sample set c (1 + 2 * n + halted set + 1) (omega (arith, w .some)) (omega arith)))
+            (enough set (1 + 2 * n + halted set) (omega arith))
+
+      once-more : 1 + 2 * suc n < overflowCycle c → Waiting set c (suc n)
+      once-more l =
           record {
-            history = jumped;
             count = once (once (w .count));
-            state = ap (λ (p : Plan). p .state) jumps;
-            memory = rw jumps (w .memory);
-            cycles = rw (jumps, w .cycles) (omega arith);
+            some = omega arith;
+            reached =
+                subst (λ (u : ℕ). Reached set c (looping (once (once (w .count)))) (1 + 2 * suc n) u) (omega arith)
+                (subst (λ (m : ℕ). Reached set c (looping (once (once (w .count)))) m (1 + 2 * n + halted set + 2)) (omega arith) (jumped (omega arith)));
             none-stored =
                 none-yet (1 + 2 * n + 1) (once (w .count)) (one-more c (1 + 2 * n) (w .count) true true at) (omega arith)
                 (none-yet (1 + 2 * n) (w .count) at (omega arith) (w .none-stored));
-            undisturbed = (w .undisturbed, rw (w .state) (loop-undisturbed (w .count)));
-            reads = step-reads (omega arith);
           }
 
-  waits : (n : ℕ) → 1 + 2 * n < overflowCycle c → Waiting c n
-  waits zero l = first-wait
-  waits (suc n) l = once-more n (waits n (omega arith)) l
+    waiting : (n : ℕ) → 1 + 2 * suc n < overflowCycle c → Waiting set c (suc n)
+    waiting zero l = first-wait
+    waiting (suc n) l = once-more (suc n) (waiting n (omega arith)) l
 
-  -- So many jumps that the next one has the overflow in its first cycle.
-  abbrev turns : ℕ
-  turns = 16 * (256 - c) - 1
+    -- So many jumps that the next one has the overflow in its first cycle.
+    abbrev turns : ℕ
+    turns = 16 * (256 - c) - 1
 
-  last : Waiting c turns
-  last = waits turns (omega arith)
+    last : Waiting set c turns
+    last = subst (Waiting set c) (omega arith) (waiting (16 * (256 - c) - 2) (omega arith))
 
-  -- The run up to the end of the jump with the overflow.
-  p : History rom blank (start c)
-  p = jumped turns last
+    before-overflow : 1 + 2 * turns < overflowCycle c
+    before-overflow = omega arith
 
-  p-cycles : p .end .cycles ≡ overflowCycle c + 1
-  unfolding p jumped
-  p-cycles = rw (jumps turns last, last .cycles) (omega arith)
+    reached-end : Reached set c (looping (once (once (last .count)))) (1 + 2 * turns + 2) (1 + 2 * turns + halted set + 2)
+    reached-end = jumped turns last before-overflow
 
-  p-used : p .end .used ≡ overflowCycle c + 1
-  p-used = sample-a-cycle (p .steps) ∙ p-cycles
+    -- The run up to the end of the jump with the overflow.
+    p : History (rom set) blank (start c)
+    p = reached-end .history
 
-  p-state : p .end .state ≡ looping (once (once (last .count)))
-  unfolding p jumped
-  p-state = ap (λ (q : Plan). q .state) (jumps turns last)
+    p-cycles : p .end .cycles ≡ overflowCycle c + 1
+    unfolding p
+    p-cycles = omega (arith, reached-end .spent)
 
-  p-memory : p .end .ram ≡ blank
-  unfolding p jumped written
-  p-memory = rw (jumps turns last) (last .memory)
+    p-used : p .end .used ≡ overflowCycle c + 1 + halted set
+    unfolding p
+    p-used = omega (arith, reached-end .samples-used)
 
-  p-undisturbed : AllUndisturbed (p .steps)
-  unfolding p jumped
-  p-undisturbed = (last .undisturbed, rw (last .state) (loop-undisturbed (last .count)))
+    p-state : p .end .state ≡ looping (once (once (last .count)))
+    unfolding p
+    p-state = reached-end .state
 
-  p-reads : Reads (samples c) (p .steps)
-  unfolding p jumped
-  p-reads = step-reads turns last (omega arith)
+    p-memory : p .end .ram ≡ blank
+    unfolding p
+    p-memory = reached-end .memory
 
-  in-step : StepWith (overflowCycle c) p
-  unfolding p jumped
-  in-step =
-      record {
-        before = last .history;
-        first = idle;
-        second = idle;
-        fine = ap (λ (q : Plan). q .number) (jumps turns last);
-        starts = rw (last .cycles) (omega arith);
-        ends = rw (jumps turns last, last .cycles) (omega arith);
-        begins = whole;
-      }
+    in-step : StepWith (overflowCycle c) p
+    unfolding p reached-end jumped on
+    in-step =
+        record {
+          before = last .reached .history;
+          first = idle;
+          second = idle;
+          fine = fine set c (last .reached) idle idle _ 2 2 (jumps turns last);
+          starts = omega (arith, last .reached .spent);
+          ends = rw (planned set c (last .reached) idle idle _ 2 2 (jumps turns last), last .reached .spent) (omega arith);
+          begins = whole;
+        }
 
-  enabled : cycle (p .steps) (overflowCycle c) .enabled ≡ true
-  unfolding p jumped
-  enabled =
-      step-enabled idle idle (last .history .steps) (ap (λ (q : Plan). q .number) (jumps turns last)) (overflowCycle c) (rw (last .cycles) (omega arith))
-      ∙ ap (λ (s : State). s .interrupts .tcnti) p-state
+    enabled : cycle (p .steps) (overflowCycle c) .enabled ≡ true
+    unfolding p reached-end jumped on
+    enabled =
+        step-enabled idle idle (last .reached .history .steps) (fine set c (last .reached) idle idle _ 2 2 (jumps turns last)) (overflowCycle c)
+        (omega (arith, last .reached .spent))
+        ∙ ap (λ (s : State). s .interrupts .tcnti) (reached-end .state)
 
-  next-sample : firstOf (samples c) (p .end) ≡ idle
-  next-sample = rw p-used (sample (overflowCycle c + 1) (omega arith))
+    next-sample : firstOf (samples set c) (p .end) ≡ idle
+    next-sample = rw p-used (sample set c (overflowCycle c + 1 + halted set) (omega arith) (omega arith))
 
-  last-sample : secondOf (samples c) (p .end) ≡ idle
-  last-sample = rw p-used (sample (overflowCycle c + 1 + 1) (omega arith))
+    last-sample : secondOf (samples set c) (p .end) ≡ idle
+    last-sample = rw p-used (sample set c (overflowCycle c + 1 + halted set + 1) (omega arith) (omega arith))
 
-  in-size : once (once (last .count)) .divider < 32
-  in-size = omega arith
+    in-size : once (once (last .count)) .divider < 32
+    in-size = omega arith
 
--- All that the third demand asks is met by one run, for every c.
-pub asked : (c : ℕ) → c < 256 → Asked rom blank (start c) (samples c) c
-unfolding in-step p jumped
-asked c small =
+-- All that the third demand asks is met by one run, under either set and for every c.
+pub asked : (set : Set) (c : ℕ) → c < 256 → Asked (rom set) blank (start c) (samples set c) c
+unfolding in-step p reached-end jumped on
+asked set c small =
     record {
-      part = p c small;
-      reads = p-reads c small;
-      undisturbed = p-undisturbed c small;
-      overflow = in-step c small;
-      on = enabled c small;
-      fine = rw (next-sample c small, last-sample c small, p-memory c small, p-state c small) (loop-fine (once (once (last c small .count))) _ refl (in-size c small));
-      calm = rw (next-sample c small, p-state c small) (loop-undisturbed (once (once (last c small .count))));
-      idle = ap (λ (s : State). s .interrupts .service) (p-state c small);
-      off = inl (ap (λ (s : State). s .interrupts .external) (p-state c small));
-      two = rw (p-used c small) (enough c small (overflowCycle c + 1) (omega arith));
+      part = p c small set;
+      reads = reached-end c small set .reads;
+      undisturbed = reached-end c small set .undisturbed;
+      overflow = in-step c small set;
+      awake = rw (last c small set .reached .state) (loop-awake set (last c small set .count));
+      on = enabled c small set;
+      fine = rw (next-sample c small set, last-sample c small set, p-memory c small set, p-state c small set) (loop-fine set (once (once (last c small set .count))) _ refl (in-size c small set));
+      calm = rw (next-sample c small set, p-state c small set) (loop-undisturbed set (once (once (last c small set .count))));
+      idle = ap (λ (s : State). s .interrupts .service) (p-state c small set);
+      off = inl (ap (λ (s : State). s .interrupts .external) (p-state c small set));
+      two = rw (p-used c small set) (enough c small set (overflowCycle c + 1 + halted set) (omega arith));
     }
 
 -- ---- STRT T leads there
-strt-there : instructionAt rom 0 ≡ given (sized (Control StrtT) 1)
+strt-there : (set : Set) → instructionAt (rom set) 0 ≡ given (sized (Control StrtT) 1)
 unfolding instructionAt decodedAt entryOf kindOf pick
-strt-there = refl
+strt-there Intel = refl
+strt-there Nec = refl
 
-fetches : (c : ℕ) → Fetches rom blank (ready c) idle idle
+fetches : (set : Set) (c : ℕ) → Fetches (rom set) blank (ready c) idle idle
 unfolding admission lentNumber pick
-fetches c = record { admitted = refl; running = refl; no-external = refl; no-timer = refl }
+fetches Intel c = record { admitted = refl; no-reset = refl; no-wait = refl; no-external = refl; no-timer = refl }
+fetches Nec c = record { admitted = refl; no-reset = refl; no-wait = refl; no-external = refl; no-timer = refl }
 
-strt-plan : (c : ℕ) → planOf rom blank (ready c) idle idle ≡ record { number = 0; state = start c; event = Quiet; write = Nothing; cycles = 1 }
+strt-plan : (set : Set) (c : ℕ) → planOf (rom set) blank (ready c) idle idle ≡ plan (start c) 1 1
 unfolding planBy settled ticked course carried done accepted admission lentNumber executed instructionAt decodedAt entryOf kindOf pick
-strt-plan c = refl
+strt-plan Intel c = refl
+strt-plan Nec c = refl
 
-asked-after : (c : ℕ) → c < 256 → Asked rom (ramAfter rom blank (ready c) idle idle) (stepOf rom blank (ready c) idle idle .state) (samples c) c
+asked-after :
+    (set : Set) (c : ℕ) → c < 256
+    → Asked (rom set) (ramAfter (rom set) blank (ready c) idle idle) (stepOf (rom set) blank (ready c) idle idle .state) (samples set c) c
 unfolding written
-asked-after c small =
-    subst (λ (q : Plan). Asked rom (written blank (q .write)) (q .state) (samples c) c) (sym (strt-plan c)) (asked c small)
+asked-after set c small =
+    subst (λ (q : Plan). Asked (rom set) (written blank (q .write)) (q .state) (samples set c) c) (sym (strt-plan set c)) (asked set c small)
 
 -- From a step that carries out STRT T, through a run, to the call to location 7: for every c.
 pub strt-t-to-7 :
-    (c : ℕ) → c < 256 → Met rom (ramAfter rom blank (ready c) idle idle) (stepOf rom blank (ready c) idle idle .state) (samples c) c
-strt-t-to-7 c small =
+    (set : Set) (c : ℕ) → c < 256
+    → Met (rom set) (ramAfter (rom set) blank (ready c) idle idle) (stepOf (rom set) blank (ready c) idle idle .state) (samples set c) c
+strt-t-to-7 set c small =
     record {
-      asks = asked-after c small;
-      called = from-strt-t rom blank (ready c) idle idle (fetches c) 1 strt-there small (samples c) (asked-after c small);
+      asks = asked-after set c small;
+      called = from-strt-t (rom set) blank (ready c) idle idle (fetches set c) 1 (strt-there set) small (samples set c) (asked-after set c small);
     }
 
 -- ---- and its call is late by 3
-module _ (c : ℕ) (small : c < 256) where
-  admitted : lentNumber (length rom) (length blank) (start c) ≡ 0
-  unfolding lentNumber pick
-  admitted = refl
+module _ (set : Set) (c : ℕ) (small : c < 256) where
+  admitted : lentOf (rom set) blank (start c) ≡ 0
+  admitted = go set
+    where
+      go : (x : Set) → lentOf (rom x) blank (start c) ≡ 0
+      go Intel = unfold lentNumber pick in refl
+      go Nec = unfold lentNumber pick in refl
 
-  in-time : Called (asked c small)
-  in-time = called-in-time c small (started c small) admitted (asked c small)
+  in-time : Called (asked set c small)
+  in-time = called-in-time c small (started c small) admitted (asked set c small)
 
   end : Progress
-  end = next (asked c small) .end
+  end = next (asked set c small) .end
 
   end-cycles : end .cycles ≡ overflowCycle c + 3
-  unfolding end asked in-step p jumped
-  end-cycles = omega (arith, p-cycles c small, in-time .calls .cycles)
+  unfolding end asked
+  end-cycles = omega (arith, p-cycles c small set, in-time .calls .cycles)
 
-  through : runOf rom blank (start c) (samples c) ≡ ended end 0
+  end-used : end .used ≡ length (samples set c)
+  unfolding end asked
+  end-used =
+      let u = in-time .calls .used in
+      omega (arith, p-used c small set, u, samples-length set c)
+
+  through : runOf (rom set) blank (start c) (samples set c) ≡ ended end 0
   unfolding end
-  through = in-time .through ∙ run-short rom (samples c) (end .used) end (rw times-length (omega (arith, end-cycles, sample-a-cycle (next (asked c small) .steps))))
+  through = in-time .through ∙ run-short (rom set) (samples set c) (end .used) end (omega (arith, end-used))
 
   -- What the call pushed.
-  end-memory : end .ram ≡ set (set blank 8 0x02) 9 0x00
-  unfolding end asked in-step p jumped
-  end-memory = in-time .calls .memory ∙ rw (p-memory c small, p-state c small)
+  end-memory : end .ram ≡ put (put blank 8 0x02) 9 0x00
+  unfolding end asked
+  end-memory = in-time .calls .memory ∙ rw (p-memory c small set, p-state c small set)
 
-pub exactly-3 : (c : ℕ) → c < 256 → Late c (runOf rom blank (start c) (samples c))
+pub exactly-3 : (set : Set) (c : ℕ) → c < 256 → Late set c (runOf (rom set) blank (start c) (samples set c))
 unfolding end
-exactly-3 c small =
-    subst (Late c) (sym (through c small))
+exactly-3 set c small =
+    subst (Late set c) (sym (through set c small))
     (record {
       number = refl;
-      cycles = end-cycles c small;
-      pc = in-time c small .calls .pc;
-      request = in-time c small .calls .request;
-      service = in-time c small .calls .service;
-      ram-8 = ap (λ (m : List ℕ). byteAt m 8) (end-memory c small);
-      ram-9 = ap (λ (m : List ℕ). byteAt m 9) (end-memory c small);
+      used = end-used set c small;
+      cycles = end-cycles set c small;
+      pc = in-time set c small .calls .pc;
+      request = in-time set c small .calls .request;
+      service = in-time set c small .calls .service;
+      ram-8 = ap (λ (m : List ℕ). byteAt m 8) (end-memory set c small);
+      ram-9 = ap (λ (m : List ℕ). byteAt m 9) (end-memory set c small);
     })
 
-pub exactly-8195 : Late 0 (runOf rom blank (start 0) (times 8195 idle))
-exactly-8195 = exactly-3 0 (lit≤ tt)
+pub exactly-8195 : (set : Set) → Late set 0 (runOf (rom set) blank (start 0) (samples set 0))
+exactly-8195 set = exactly-3 set 0 (lit≤ tt)

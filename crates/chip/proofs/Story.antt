@@ -7,6 +7,8 @@ use mathlib.Core.Path.{_≡_, refl}
 use Rattle.isa.specs.Choice.{pick}
 use Rattle.isa.specs.Reading.{instructionAt, decodedAt}
 use Rattle.isa.specs.Sheet.{kindOf, entryOf}
+use Rattle.isa.specs.declared.Set.{Set}
+use Rattle.isa.specs.declared.Set.the-variants.{Intel, Nec}
 use Rattle.effects.specs.Effect.{written}
 use Rattle.flow.specs.Stack.{pushed}
 use Rattle.execute.specs.Execute.{executed}
@@ -16,10 +18,12 @@ use Rattle.chip.specs.Step.{declined, accepted, resetState, called, with
 use Rattle.chip.specs.Story.{sight, waited}
 
 pub story :
-    map (λ n. sight (waited n)) (39 ∷ 41 ∷ 43 ∷ [])
+    (set : Set)
+    → map (λ n. sight (waited set n)) (39 ∷ 41 ∷ 43 ∷ [])
     ≡ record { number = 0; cycles = 38; pc = 0x00E; t = 0xFF; tf = false; request = false; service = false }
     ∷ record { number = 0; cycles = 40; pc = 0x00E; t = 0; tf = true; request = true; service = false }
     ∷ record { number = 0; cycles = 42; pc = 0x007; t = 0; tf = true; request = false; service = true }
     ∷ []
 unfolding runOf runOver planBy settled ticked course carried done accepted declined resetState called withoutRequest written admission lentNumber executed pushed instructionAt decodedAt entryOf kindOf pick
-story = refl
+story Intel = refl
+story Nec = refl

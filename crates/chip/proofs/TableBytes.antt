@@ -11,10 +11,12 @@ use borrow.Author.Tests.{eqb-true, leb-true, leb-false, le-leb, lt-leb}
 use Rattle.isa.specs.Choice.{pick}
 use Rattle.isa.specs.Numbers.{given}
 use Rattle.isa.specs.Pages.{movpAddress, jmppAddress, movp3Address}
-use Rattle.isa.specs.Reading.{sized, lacks, byteAt, instructionAt, decodedAt}
-use Rattle.isa.specs.Sheet.{kindOf, entryOf}
+use Rattle.isa.specs.Reading.{Program, under, sized, lacks, byteAt, instructionAt, decodedAt}
+use Rattle.isa.specs.Sheet.{kindOf, entryOf, instructionOf}
 use Rattle.isa.specs.declared.Instruction.{Instruction}
 use Rattle.isa.specs.declared.Instruction.the-variants.{Movp}
+use Rattle.isa.specs.declared.Set.{Set}
+use Rattle.isa.specs.declared.Set.the-variants.{Intel, Nec}
 use Rattle.machine.specs.State.{withPc}
 use Rattle.machine.specs.declared.State.{State}
 use Rattle.effects.specs.Effect.{written}
@@ -25,6 +27,7 @@ use Rattle.chip.specs.Cases.{holding, idle, blank, with}
 use Rattle.chip.specs.Refusals.{Fetches, no-table-byte, TableByte, of-movp, of-movp3, of-jmpp}
 use Rattle.chip.specs.Step.{declined, accepted, done, carried, course, planBy, stepOf, ramAfter}
 use Rattle.chip.proofs.Exactly.{exactly-to}
+use Rattle.chip.proofs.Fetches.{reads-one}
 
 -- MOVP at 3FF of 1,024 bytes, whose table byte would stand at 434.
 abbrev lastMovp : List ℕ
@@ -33,30 +36,36 @@ lastMovp = holding 1024 0x3FF (0xA3 ∷ [])
 abbrev at3ff : State
 at3ff = withPc (with 0x34 0x08) 0x3FF
 
-pub movp-past-end : stepOf lastMovp blank at3ff idle idle ≡ record { number = 5; state = at3ff; event = Quiet; cycles = 0 }
+pub movp-past-end :
+    (set : Set) → stepOf (under set lastMovp) blank at3ff idle idle ≡ record { number = 5; state = at3ff; event = Quiet; cycles = 0; used = 0 }
 unfolding planBy course carried done accepted declined admission lentNumber executed instructionAt decodedAt entryOf kindOf pick
-movp-past-end = refl
+movp-past-end Intel = refl
+movp-past-end Nec = refl
 
-pub movp-past-end-ram : ramAfter lastMovp blank at3ff idle idle ≡ blank
+pub movp-past-end-ram : (set : Set) → ramAfter (under set lastMovp) blank at3ff idle idle ≡ blank
 unfolding planBy course carried done accepted declined written admission lentNumber executed instructionAt decodedAt entryOf kindOf pick
-movp-past-end-ram = refl
+movp-past-end-ram Intel = refl
+movp-past-end-ram Nec = refl
 
 -- Whatever A, RAM and the rest of the program are, that MOVP gives 5.
-reads-movp : (program : List ℕ) (pc : ℕ) → lacks program pc ≡ false → byteAt program pc ≡ 0xA3 → instructionAt program pc ≡ given (sized Movp 1)
-unfolding instructionAt decodedAt entryOf kindOf pick
-reads-movp program pc l b = rw (l, b)
+reads-movp : (program : Program) (pc : ℕ) → lacks (program .bytes) pc ≡ false → byteAt (program .bytes) pc ≡ 0xA3 → instructionAt program pc ≡ given (sized Movp 1)
+reads-movp program pc l b = reads-one program pc 0xA3 Movp l b each
+  where
+    each : (set : Set) → (entryOf set 0xA3 .bytes ≡ 1) × (instructionOf set 0xA3 0 ≡ Movp)
+    each Intel = unfold entryOf kindOf pick in (refl, refl)
+    each Nec = unfold entryOf kindOf pick in (refl, refl)
 
 pub last-movp-5 :
-    (program ram : List ℕ) (s : State) (first second : ℕ) → Fetches program ram s first second → length program ≡ 1024 → s .pc ≡ 0x3FF
-    → byteAt program (s .pc) ≡ 0xA3 → stepOf program ram s first second .number ≡ 5
+    (program : Program) (ram : List ℕ) (s : State) (first second : ℕ) → Fetches program ram s first second → length (program .bytes) ≡ 1024 → s .pc ≡ 0x3FF
+    → byteAt (program .bytes) (s .pc) ≡ 0xA3 → stepOf program ram s first second .number ≡ 5
 last-movp-5 program ram s first second f n e b =
     exactly-to program ram s first second 5
     (no-table-byte Movp 1 _ f (reads-movp program (s .pc) (lt-leb _ _ there) b) of-movp (le-leb _ _ past))
   where
-    there : s .pc < length program
+    there : s .pc < length (program .bytes)
     there = omega arith
 
-    past : length program ≤ movpAddress (s .pc) (s .a)
+    past : length (program .bytes) ≤ movpAddress (s .pc) (s .a)
     past = omega arith
 
 -- And no other table byte is past the end of a program that has the first byte.
@@ -86,8 +95,8 @@ module _ (n pc a : ℕ) (allowed : programAllowed n ≡ true) (there : pc < n) w
   jmpp-there none = one-of-three n ⊥ allowed (λ e. omega arith) (λ e. omega arith) (λ e. omega arith)
 
 pub only-last-movp :
-    (program : List ℕ) (pc a : ℕ) (i : Instruction) (at : ℕ) → programAllowed (length program) ≡ true → lacks program pc ≡ false → a < 256
-    → TableByte pc a i at → lacks program at ≡ true → LastMovp (length program) pc i
+    (program : Program) (pc a : ℕ) (i : Instruction) (at : ℕ) → programAllowed (length (program .bytes)) ≡ true → lacks (program .bytes) pc ≡ false → a < 256
+    → TableByte pc a i at → lacks (program .bytes) at ≡ true → LastMovp (length (program .bytes)) pc i
 only-last-movp program pc a i at allowed there l of-movp none = movp-last _ pc a allowed (leb-false _ _ there) (leb-true _ _ none)
 only-last-movp program pc a i at allowed there l of-movp3 none =
     absurd (movp3-there _ pc a allowed (leb-false _ _ there) l (leb-true _ _ none))

@@ -7,11 +7,13 @@ use mathlib.Core.Logic.{_⊎_}
 use mathlib.Core.Path.{_≡_}
 use lib.Dec.{eqb, leb}
 use lib.ListN.{length, getD, set, drop}
-use Rattle.isa.specs.Choice.{pick}
+use Rattle.isa.specs.Choice.{pick, oneIf}
 use Rattle.isa.specs.Numbers.{given}
-use Rattle.isa.specs.Reading.{sized, instructionAt}
+use Rattle.isa.specs.Reading.{Program, sized, instructionAt}
+use Rattle.isa.specs.Sets.{Standby}
 use Rattle.isa.specs.declared.Instruction.{Instruction}
 use Rattle.machine.specs.Counting.{counted}
+use Rattle.machine.specs.Mode.{isWaiting}
 use Rattle.machine.specs.Pins.{intPin, t1Pin, resetPin, isHigh, isLow}
 use Rattle.machine.specs.State.{countOf}
 use Rattle.machine.specs.declared.Count.{Count}
@@ -20,7 +22,7 @@ use Rattle.machine.specs.declared.Counting.the-variants.{Timer}
 use Rattle.machine.specs.declared.State.{State}
 use Rattle.machine.specs.Psw.{sp}
 use Rattle.execute.specs.Setting.{LeavesCounter}
-use Rattle.chip.specs.Admission.{lentNumber}
+use Rattle.chip.specs.Admission.{lentOf}
 use Rattle.chip.specs.Run.{Progress, Ended, begun, gone, ended, runOver, runOf}
 use Rattle.chip.specs.Step.{Course, Plan, externalCalls, timerCalls, accepted, called, withoutRequest, course, planOf, remembered}
 
@@ -78,25 +80,30 @@ secondCycle c first second =
 
 -- ---- steps one after the other
 -- The step that comes next in a run, before its cycles are counted, and whole.
-abbrev pub courseAt : List ℕ → Progress → ℕ → ℕ → Course
+abbrev pub courseAt : Program → Progress → ℕ → ℕ → Course
 courseAt program k first second = course program (k .ram) (k .state) first second
 
-abbrev pub planAt : List ℕ → Progress → ℕ → ℕ → Plan
+abbrev pub planAt : Program → Progress → ℕ → ℕ → Plan
 planAt program k first second = planOf program (k .ram) (k .state) first second
 
 -- Where it leads.
-abbrev pub after : List ℕ → Progress → ℕ → ℕ → Progress
+abbrev pub after : Program → Progress → ℕ → ℕ → Progress
 after program k first second = gone k (planAt program k first second)
 
 -- A history: accepted steps, one after the other, from a RAM and a state.
-pub data Steps (program ram : List ℕ) (s : State) : Progress → Type 0 where
+pub data Steps (program : Program) (ram : List ℕ) (s : State) : Progress → Type 0 where
   none : Steps program ram s (begun ram s)
   more :
       {k : Progress} (first second : ℕ) → Steps program ram s k → planAt program k first second .number ≡ 0
       → Steps program ram s (after program k first second)
 
+-- How many of its steps were waits of a halted or stopped machine: they used a sample each, and no machine cycle.
+abbrev pub waitsIn : {program : Program} {ram : List ℕ} {s : State} {k : Progress} → Steps program ram s k → ℕ
+waitsIn none = 0
+waitsIn {program} (more {k = k} first second h a) = waitsIn h + oneIf (eqb (planAt program k first second .cycles) 0)
+
 -- Cycle i of a history, from 1 to its number of cycles. (An empty history has none; what it gives makes the definition total.)
-unfoldable pub cycle : {program ram : List ℕ} {s : State} {k : Progress} → Steps program ram s k → ℕ → Cycle
+unfoldable pub cycle : {program : Program} {ram : List ℕ} {s : State} {k : Progress} → Steps program ram s k → ℕ → Cycle
 cycle {s = s} none i = record { counting = s .counting; before = countOf s; t1 = false; enabled = false; fresh = false }
 cycle {program} (more {k = k} first second h a) i =
     pick (leb i (k .cycles)) (cycle h i)
@@ -104,15 +111,22 @@ cycle {program} (more {k = k} first second h a) i =
     (secondCycle (courseAt program k first second) first second))
 
 -- ---- what the owner asks of each step of a history, beside that it is accepted
--- "No reset is seen and none of STRT T, STRT CNT, STOP TCNT, MOV T,A is carried out": an interrupt call carries out none.
-pub record Undisturbed (program : List ℕ) (s : State) (first : ℕ) : Type 0 where
+-- The step carries out the instruction i: no reset is seen, the machine is not halted or stopped, no interrupt is called, and i stands at PC.
+pub record CarriesOut (program : Program) (s : State) (first : ℕ) (i : Instruction) : Type 0 where
   pub no-reset : isLow resetPin first ≡ false
-  pub none-of-four :
-      externalCalls s first ≡ false → timerCalls s ≡ false → (i : Instruction) (n : ℕ)
-      → instructionAt program (s .pc) ≡ given (sized i n) → LeavesCounter i
+  pub no-wait : isWaiting (s .mode) ≡ false
+  pub no-external : externalCalls s first ≡ false
+  pub no-timer : timerCalls s ≡ false
+  pub bytes : ℕ
+  pub stands : instructionAt program (s .pc) ≡ given (sized i bytes)
+
+-- "No reset is seen and none of STRT T, STRT CNT, STOP TCNT, MOV T,A is carried out": an interrupt call and a wait carry out none.
+pub record Undisturbed (program : Program) (s : State) (first : ℕ) : Type 0 where
+  pub no-reset : isLow resetPin first ≡ false
+  pub none-of-four : (i : Instruction) → CarriesOut program s first i → LeavesCounter i
 
 -- Each step of the history is so.
-abbrev pub AllUndisturbed : {program ram : List ℕ} {s : State} {k : Progress} → Steps program ram s k → Type 0
+abbrev pub AllUndisturbed : {program : Program} {ram : List ℕ} {s : State} {k : Progress} → Steps program ram s k → Type 0
 AllUndisturbed none = Unit {0}
 AllUndisturbed {program} (more {k = k} first second h a) = AllUndisturbed h × Undisturbed program (k .state) first
 
@@ -122,25 +136,26 @@ pub record JustStarted (c : ℕ) (s : State) : Type 0 where
   pub t : s .t ≡ c
   pub divider : s .divider ≡ 0
 
--- The step is the call to location 7: PC is 7, the request is cleared, the interrupt is in service, it takes two cycles, and "RAM 8 + 2 x SP
+-- The step is the call to location 7: PC is 7, the request is cleared, the interrupt is in service, it takes two cycles and samples, and "RAM 8 + 2 x SP
 -- takes PC bits 0-7, the next byte PC bits 8-11 low and PSW bits 4-7 high".
-pub record CallTo7 (program : List ℕ) (k : Progress) (first second : ℕ) : Type 0 where
+pub record CallTo7 (program : Program) (k : Progress) (first second : ℕ) : Type 0 where
   pub call : courseAt program k first second ≡ accepted (called (withoutRequest (k .state)) 7) 2
   pub pc : after program k first second .state .pc ≡ 7
   pub request : after program k first second .state .request ≡ false
   pub service : after program k first second .state .interrupts .service ≡ true
   pub cycles : planAt program k first second .cycles ≡ 2
+  pub used : planAt program k first second .used ≡ 2
   pub memory :
       after program k first second .ram
       ≡ set (set (k .ram) (8 + sp (k .state .psw) * 2) (k .state .pc % 256)) (8 + sp (k .state .psw) * 2 + 1)
       (k .state .pc / 256 % 16 + k .state .psw / 16 * 16)
 
 -- ---- histories and what they begin with
-pub record History (program ram : List ℕ) (s : State) : Type 0 where
+pub record History (program : Program) (ram : List ℕ) (s : State) : Type 0 where
   pub end : Progress
   pub steps : Steps program ram s end
 
-module _ {program ram : List ℕ} {s : State} where
+module _ {program : Program} {ram : List ℕ} {s : State} where
   -- The history with one accepted step more.
   abbrev pub longer :
       (p : History program ram s) (first second : ℕ) → planAt program (p .end) first second .number ≡ 0 → History program ram s
@@ -176,19 +191,19 @@ abbrev pub secondOf : List ℕ → Progress → ℕ
 secondOf samples k = getD samples (k .used + 1) 0
 
 -- Each step was given the run's samples, and both were there.
-abbrev pub Reads : {program ram : List ℕ} {s : State} {k : Progress} → List ℕ → Steps program ram s k → Type 0
+abbrev pub Reads : {program : Program} {ram : List ℕ} {s : State} {k : Progress} → List ℕ → Steps program ram s k → Type 0
 Reads samples none = Unit {0}
 Reads samples (more {k = k} first second h a) =
     Reads samples h × (first ≡ firstOf samples k) × (second ≡ secondOf samples k) × (k .used + 2 ≤ length samples)
 
--- What a run over samples did, refused or not: it ended where its history leads, one sample used a cycle. There fewer than two samples
--- are left; or two are left, and the next step is refused with the run's number.
-pub record HistoryOf (program ram : List ℕ) (s : State) (samples : List ℕ) (e : Ended) : Type 0 where
+-- What a run over samples did, refused or not: it ended where its history leads, one sample used a cycle and one a wait. There fewer than
+-- two samples are left; or two are left, and the next step is refused with the run's number.
+pub record HistoryOf (program : Program) (ram : List ℕ) (s : State) (samples : List ℕ) (e : Ended) : Type 0 where
   pub end : Progress
   pub steps : Steps program ram s end
   pub reads : Reads samples steps
   pub is : e ≡ ended end (e .ran .number)
-  pub used : end .used ≡ end .cycles
+  pub used : end .used ≡ end .cycles + waitsIn steps
   pub enough : end .used ≤ length samples
   pub short : e .ran .number ≡ 0 → length samples ≤ end .used + 1
   pub two : (e .ran .number ≡ 0 → ⊥) → end .used + 2 ≤ length samples
@@ -196,11 +211,11 @@ pub record HistoryOf (program ram : List ℕ) (s : State) (samples : List ℕ) (
 
 -- The first demand, of a run. Refused by 1, 2 or 3 it does nothing; else it is accepted steps and then, where it is refused, a step that
 -- is refused with the run's number: "steps done before a refusal stand".
-pub data RunAnswered (program ram : List ℕ) (s : State) (samples : List ℕ) (e : Ended) : Type 0 where
+pub data RunAnswered (program : Program) (ram : List ℕ) (s : State) (samples : List ℕ) (e : Ended) : Type 0 where
   nothing-done :
-      (lentNumber (length program) (length ram) s ≡ 0 → ⊥) → e ≡ ended (begun ram s) (lentNumber (length program) (length ram) s)
+      (lentOf program ram s ≡ 0 → ⊥) → e ≡ ended (begun ram s) (lentOf program ram s)
       → RunAnswered program ram s samples e
-  steps-done : lentNumber (length program) (length ram) s ≡ 0 → HistoryOf program ram s samples e → RunAnswered program ram s samples e
+  steps-done : lentOf program ram s ≡ 0 → HistoryOf program ram s samples e → RunAnswered program ram s samples e
 
 -- ---- the third demand
 -- The cycle of the first overflow, the counter holding c just after STRT T.
@@ -209,12 +224,14 @@ overflowCycle c = 32 * (256 - c)
 
 -- All that the third demand's last sentence asks of a run over samples from just after STRT T. `part` is what the run does up to the end of
 -- some step, and the overflow lies in it.
-pub record Asked (program ram : List ℕ) (s : State) (samples : List ℕ) (c : ℕ) : Type 0 where
+pub record Asked (program : Program) (ram : List ℕ) (s : State) (samples : List ℕ) (c : ℕ) : Type 0 where
   pub part : History program ram s
   pub reads : Reads samples (part .steps)
   -- "While no step is refused, no reset is seen and none of STRT T, STRT CNT, STOP TCNT, MOV T,A is carried out"
   pub undisturbed : AllUndisturbed (part .steps)
   pub overflow : StepWith (overflowCycle c) part
+  -- "the step with the overflow is neither HALT nor STOP" (document 02, item 2)
+  pub awake : (i : Instruction) → CarriesOut program (overflow .before .end .state) (overflow .first) i → Standby i → ⊥
   -- "If the timer interrupt is enabled then,
   pub on : cycle (part .steps) (overflowCycle c) .enabled ≡ true
   -- all this holds through the next step too,
@@ -228,7 +245,7 @@ pub record Asked (program ram : List ℕ) (s : State) (samples : List ℕ) (c : 
   -- and two pin samples remain"
   pub two : upTo overflow .end .used + 2 ≤ length samples
 
-module _ {program ram : List ℕ} {s : State} {samples : List ℕ} {c : ℕ} (q : Asked program ram s samples c) where
+module _ {program : Program} {ram : List ℕ} {s : State} {samples : List ℕ} {c : ℕ} (q : Asked program ram s samples c) where
   -- The run up to the end of the step with the overflow, and with the next step.
   abbrev pub until : History program ram s
   until = upTo (q .overflow)
@@ -245,6 +262,6 @@ module _ {program ram : List ℕ} {s : State} {samples : List ℕ} {c : ℕ} (q 
     pub within-8195 : c ≡ 0 → next .end .cycles ≤ 8195
 
 -- A run that meets all of it, and is answered so.
-pub record Met (program ram : List ℕ) (s : State) (samples : List ℕ) (c : ℕ) : Type 0 where
+pub record Met (program : Program) (ram : List ℕ) (s : State) (samples : List ℕ) (c : ℕ) : Type 0 where
   pub asks : Asked program ram s samples c
   pub called : Called asks

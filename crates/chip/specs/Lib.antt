@@ -4,5 +4,6 @@ pub mod History
 pub mod Loop
 pub mod Refusals
 pub mod Run
+pub mod Standby
 pub mod Step
 pub mod Story

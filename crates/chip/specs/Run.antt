@@ -4,13 +4,13 @@ use Prim.Native.Nat.{ℕ, _+_}
 use mathlib.Core.List.{List, [], _∷_, _++_}
 use mathlib.Core.Path.{_≡_}
 use lib.Dec.{eqb}
-use lib.ListN.{length}
 use Rattle.isa.specs.Choice.{pick}
+use Rattle.isa.specs.Reading.{Program}
 use Rattle.machine.specs.declared.State.{State}
 use Rattle.effects.specs.Effect.{written}
 use Rattle.effects.specs.declared.Event.{Event}
 use Rattle.effects.specs.declared.Event.the-variants.{Quiet}
-use Rattle.chip.specs.Admission.{lentNumber}
+use Rattle.chip.specs.Admission.{lentOf}
 use Rattle.chip.specs.Step.{Plan, planOf}
 use Rattle.chip.specs.declared.Ran.{Ran}
 
@@ -25,13 +25,13 @@ pub record Progress : Type 0 where
 abbrev pub begun : List ℕ → State → Progress
 begun ram s = record { ram = ram; state = s; used = 0; cycles = 0; events = [] }
 
--- After a step that was accepted. Each of its cycles uses one sample.
+-- After a step that was accepted. "Samples and cycles become two separate totals" (document 02, item 2).
 abbrev pub gone : Progress → Plan → Progress
 gone m p =
     record {
       ram = written (m .ram) (p .write);
       state = p .state;
-      used = m .used + p .cycles;
+      used = m .used + p .used;
       cycles = m .cycles + p .cycles;
       events = m .events ++ (p .event ∷ []);
     }
@@ -56,23 +56,24 @@ ended m number =
       events = m .events;
     }
 
--- After a step: a refusal ends the run as it stood; else it goes on, as `one` says after a step of one cycle, as `two` after one of two.
+-- After a step: a refusal ends the run as it stood; else it goes on, as `one` says after a step that used one sample, as `two`
+-- after one that used two.
 abbrev pub turned : Plan → Progress → (Progress → Ended) → (Progress → Ended) → Ended
-turned p m one two = pick (eqb (p .number) 0) (pick (eqb (p .cycles) 1) one two (gone m p)) (ended m (p .number))
+turned p m one two = pick (eqb (p .number) 0) (pick (eqb (p .used) 1) one two (gone m p)) (ended m (p .number))
 
 -- The run over the samples that are left. "A run steps while two samples remain, or until a refusal"; "0 if samples ran out". A step is
--- given the samples x and y; after one cycle y is the next step's first, after two both are used.
-unfoldable pub runOver : List ℕ → List ℕ → Progress → Ended
+-- given the samples x and y; where it used one, y is the next step's first.
+unfoldable pub runOver : Program → List ℕ → Progress → Ended
 runOver program [] m = ended m 0
 runOver program (x ∷ []) m = ended m 0
 runOver program (x ∷ (y ∷ rest)) m =
     turned (planOf program (m .ram) (m .state) x y) m (runOver program (y ∷ rest)) (runOver program rest)
 
 -- "With 0 or 1 sample it checks 1, 2, 3 and does nothing."
-unfoldable pub runOf : List ℕ → List ℕ → State → List ℕ → Ended
+unfoldable pub runOf : Program → List ℕ → State → List ℕ → Ended
 runOf program ram s samples =
-    pick (eqb (lentNumber (length program) (length ram) s) 0) (runOver program samples (begun ram s))
-    (ended (begun ram s) (lentNumber (length program) (length ram) s))
+    pick (eqb (lentOf program ram s) 0) (runOver program samples (begun ram s))
+    (ended (begun ram s) (lentOf program ram s))
 
 -- The run w is the runs a and b, one after the other: it ends as b does, its totals are theirs added, and its events are a's and then b's.
 -- (The event that each returns is its own last step's, and a run without steps has none.)

@@ -1,21 +1,22 @@
--- Document 01, "One step".
+-- Document 01, "One step", with the steps of a machine that is halted or stopped (document 02, item 2).
 -- Assumes nothing.
 use Prim.Native.Nat.{ℕ, _+_, _*_, _/_, _%_}
 use mathlib.Core.Bool.{Bool, true, false, not, _&&_}
 use mathlib.Core.List.{List}
 use mathlib.Core.Path.{_≡_}
 use lib.Dec.{eqb}
-use lib.ListN.{length}
 use Rattle.isa.specs.Choice.{pick}
 use Rattle.isa.specs.Numbers.{Answer, given, refused}
-use Rattle.isa.specs.Reading.{Sized, sized, nextPc, byteAt, instructionAt}
-use Rattle.isa.specs.Sheet.{entryOf, makeOf}
+use Rattle.isa.specs.Reading.{Program, Sized, sized, nextPc, entryAt, instructionAt}
+use Rattle.isa.specs.Sheet.{makeOf}
 use Rattle.machine.specs.Counting.{counted}
+use Rattle.machine.specs.Mode.{isRunning, isWaiting}
 use Rattle.machine.specs.Pins.{intPin, t1Pin, resetPin, isHigh, isLow}
-use Rattle.machine.specs.State.{countOf, withPc, withCount, withInterrupts}
+use Rattle.machine.specs.State.{countOf, withCount, withInterrupts, withMode, runningAt}
 use Rattle.machine.specs.declared.Count.{Count}
 use Rattle.machine.specs.declared.Counting.{Counting}
 use Rattle.machine.specs.declared.Counting.the-variants.{Stopped}
+use Rattle.machine.specs.declared.Mode.the-variants.{Running, Released}
 use Rattle.machine.specs.declared.State.{State}
 use Rattle.effects.specs.Effect.{Write, Nothing, Effect, written}
 use Rattle.effects.specs.Moves.{quiet}
@@ -28,9 +29,10 @@ use Rattle.chip.specs.declared.Course as code
 use Rattle.chip.specs.declared.Fetch.{Fetch}
 use Rattle.chip.specs.declared.Outcome.{Outcome}
 use Rattle.chip.specs.declared.Turn.{Turn}
-use Rattle.chip.specs.declared.Turn.the-variants.{Refuse, Reset, ExternalCall, TimerCall, CarryOut}
+use Rattle.chip.specs.declared.Turn.the-variants.{Refuse, Reset, Wait, ExternalCall, TimerCall, CarryOut}
 
--- What a step does before its cycles are counted: an effect and its cycles, or a refusal, which changes nothing.
+-- What a step does before its cycles are counted: an effect and its cycles, or a refusal, which changes nothing. `waited` says that the
+-- machine was halted or stopped.
 pub record Course : Type 0 where
   pub number : ℕ
   pub state : State
@@ -38,23 +40,27 @@ pub record Course : Type 0 where
   pub write : Write
   pub cycles : ℕ
   pub fresh : Bool
+  pub waited : Bool
 
 -- The code writes RAM in place, so what it answers is the rest.
 abbrev pub courseAnswer : Course → code.Course
-courseAnswer c = record { number = c .number; state = c .state; event = c .event; cycles = c .cycles; fresh = c .fresh }
+courseAnswer c =
+    record { number = c .number; state = c .state; event = c .event; cycles = c .cycles; fresh = c .fresh; waited = c .waited }
 
 unfoldable pub declined : ℕ → State → Course
-declined number s = record { number = number; state = s; event = Quiet; write = Nothing; cycles = 0; fresh = false }
+declined number s =
+    record { number = number; state = s; event = Quiet; write = Nothing; cycles = 0; fresh = false; waited = false }
 
 unfoldable pub accepted : Effect → ℕ → Course
 accepted e cycles =
-    record { number = 0; state = e .state; event = e .event; write = e .write; cycles = cycles; fresh = e .fresh }
+    record { number = 0; state = e .state; event = e .event; write = e .write; cycles = cycles; fresh = e .fresh; waited = false }
 
 -- 1. "RESET low in the first sample: PC, SP, BS, DBF, F0, F1, TF, stored request, both enables, in-service and T0 clock go to 0; P1 and P2
--- latches to FF; BUS not driven; counter stands still. All else but the last T1 level stays."
+-- latches to FF; BUS not driven; counter stands still. All else but the last T1 level stays." And it "always leaves it running".
 unfoldable pub resetState : State → State
 resetState s =
     record {
+      mode = Running;
       a = s .a;
       pc = 0;
       psw = s .psw / 64 * 64 + s .psw / 8 % 2 * 8;
@@ -71,13 +77,22 @@ resetState s =
       ports = record { p1 = 0xFF; p2 = 0xFF; bus = s .ports .bus; driven = false };
     }
 
+-- "A halted or stopped step uses one sample and no machine cycle, so nothing is counted and T1 isn't remembered"; "INT low makes it run from
+-- the next step on".
+abbrev pub released : State → ℕ → State
+released s first = pick (isLow intPin first) (withMode s Released) s
+
+unfoldable pub waits : State → ℕ → Course
+waits s first =
+    record { number = 0; state = released s first; event = Quiet; write = Nothing; cycles = 0; fresh = false; waited = true }
+
 -- 2. "if none is in service: external interrupt enabled and INT low in the first sample calls location 3; else timer interrupt enabled
--- and a request stored clears the request and calls 7."
+-- and a request stored clears the request and calls 7." And "after a release by INT one instruction runs before an interrupt may be called".
 abbrev pub externalCalls : State → ℕ → Bool
-externalCalls s first = not (s .interrupts .service) && s .interrupts .external && isLow intPin first
+externalCalls s first = isRunning (s .mode) && not (s .interrupts .service) && s .interrupts .external && isLow intPin first
 
 abbrev pub timerCalls : State → Bool
-timerCalls s = not (s .interrupts .service) && s .interrupts .tcnti && s .request
+timerCalls s = isRunning (s .mode) && not (s .interrupts .service) && s .interrupts .tcnti && s .request
 
 -- "The call pushes like CALL, sets in-service, leaves DBF, takes 2 cycles." Bit 11 of PC is 0 after it, the vector being 3 or 7.
 unfoldable pub called : State → ℕ → Effect
@@ -98,31 +113,34 @@ unfoldable pub done : Effect → ℕ → State → Course
 done e cycles s = pick (eqb (e .number) 0) (accepted e cycles) (declined (e .number) s)
 
 -- 3. "Otherwise one instruction": the one that stands at PC.
-abbrev pub carriedBy : Answer Sized → List ℕ → List ℕ → State → ℕ → ℕ → Course
+abbrev pub carriedBy : Answer Sized → Program → List ℕ → State → ℕ → ℕ → Course
 carriedBy (refused n) program ram s first second = declined n s
 carriedBy (given (sized i n)) program ram s first second =
-    done (executed i program ram (withPc s (pcAfter n (s .pc))) (s .pc) first second) (entryOf (byteAt program (s .pc)) .cycles) s
+    done (executed i (program .bytes) ram (runningAt s (pcAfter n (s .pc))) (s .pc) first second) (entryAt program (s .pc) .cycles) s
 
-unfoldable pub carried : List ℕ → List ℕ → State → ℕ → ℕ → Course
+unfoldable pub carried : Program → List ℕ → State → ℕ → ℕ → Course
 carried program ram s first second = carriedBy (instructionAt program (s .pc)) program ram s first second
 
--- The course of a step by its turn: its samples are refused, it is a reset, an interrupt call, or an instruction.
-abbrev pub courseBy : Turn → List ℕ → List ℕ → State → ℕ → ℕ → Course
+-- The course of a step by its turn: its samples are refused, it is a reset, a wait, an interrupt call, or an instruction.
+abbrev pub courseBy : Turn → Program → List ℕ → State → ℕ → ℕ → Course
 courseBy Refuse program ram s first second = declined 6 s
 courseBy Reset program ram s first second = accepted (quiet (resetState s)) 1
+courseBy Wait program ram s first second = waits s first
 courseBy ExternalCall program ram s first second = accepted (called s 3) 2
 courseBy TimerCall program ram s first second = accepted (called (withoutRequest s) 7) 2
 courseBy CarryOut program ram s first second = carried program ram s first second
 
--- "Order: 1, 2, 3, 6; then reset; then an interrupt call (neither fetches)"; "External goes first".
-unfoldable pub course : List ℕ → List ℕ → State → ℕ → ℕ → Course
+-- "Order: 1, 2, 3, 6; then reset; then an interrupt call (neither fetches)"; "External goes first". In a halted or stopped step "RESET low,
+-- tried first, is an ordinary reset step".
+unfoldable pub course : Program → List ℕ → State → ℕ → ℕ → Course
 course program ram s first second =
-    pick (not (eqb (admission (length program) (length ram) s first second) 0))
-    (declined (admission (length program) (length ram) s first second) s)
+    pick (not (eqb (admission program ram s first second) 0))
+    (declined (admission program ram s first second) s)
     (pick (isLow resetPin first) (courseBy Reset program ram s first second)
+    (pick (isWaiting (s .mode)) (courseBy Wait program ram s first second)
     (pick (externalCalls s first) (courseBy ExternalCall program ram s first second)
     (pick (timerCalls s) (courseBy TimerCall program ram s first second)
-    (courseBy CarryOut program ram s first second))))
+    (courseBy CarryOut program ram s first second)))))
 
 -- 4. "Then the cycles of the step, an interrupt call's two as well, are counted, one at a time, after its effects. The cycle of STRT T or
 -- STRT CNT itself isn't counted." "T1 is remembered every cycle, reset and STRT CNT too."
@@ -131,10 +149,11 @@ remembered c t1 = record { t = c .t; divider = c .divider; tf = c .tf; request =
 
 unfoldable pub ticked : Counting → Count → ℕ → Bool → Bool → ℕ → ℕ → Count
 ticked counting c cycles fresh enabled first second =
-    pick fresh (remembered c (isHigh t1Pin first))
+    pick (eqb cycles 0) c
+    (pick fresh (remembered c (isHigh t1Pin first))
     (pick (eqb cycles 2)
     (counted counting (counted counting c (isHigh t1Pin first) enabled) (isHigh t1Pin second) enabled)
-    (counted counting c (isHigh t1Pin first) enabled))
+    (counted counting c (isHigh t1Pin first) enabled)))
 
 unfoldable pub settled : State → ℕ → Bool → ℕ → ℕ → State
 settled s cycles fresh first second =
@@ -147,8 +166,10 @@ pub record Plan : Type 0 where
   pub event : Event
   pub write : Write
   pub cycles : ℕ
+  pub used : ℕ
 
--- "A refused step returns the number, the state it got, no event and 0 cycles; RAM is unchanged."
+-- Each machine cycle uses one sample, and a wait one. "A refused step returns the number, the state it got, no event and 0 cycles; RAM is
+-- unchanged."
 unfoldable pub planBy : Course → State → ℕ → ℕ → Plan
 planBy c s first second =
     pick (eqb (c .number) 0)
@@ -158,25 +179,26 @@ planBy c s first second =
       event = c .event;
       write = c .write;
       cycles = c .cycles;
+      used = pick (c .waited) 1 (c .cycles);
     })
-    (record { number = c .number; state = s; event = Quiet; write = Nothing; cycles = 0 })
+    (record { number = c .number; state = s; event = Quiet; write = Nothing; cycles = 0; used = 0 })
 
-abbrev pub planOf : List ℕ → List ℕ → State → ℕ → ℕ → Plan
+abbrev pub planOf : Program → List ℕ → State → ℕ → ℕ → Plan
 planOf program ram s first second = planBy (course program ram s first second) s first second
 
 abbrev pub outcomeOf : Plan → Outcome
-outcomeOf p = record { number = p .number; state = p .state; event = p .event; cycles = p .cycles }
+outcomeOf p = record { number = p .number; state = p .state; event = p .event; cycles = p .cycles; used = p .used }
 
 -- What a step answers, and the RAM that it leaves.
-abbrev pub stepOf : List ℕ → List ℕ → State → ℕ → ℕ → Outcome
+abbrev pub stepOf : Program → List ℕ → State → ℕ → ℕ → Outcome
 stepOf program ram s first second = outcomeOf (planOf program ram s first second)
 
-abbrev pub ramAfter : List ℕ → List ℕ → State → ℕ → ℕ → List ℕ
+abbrev pub ramAfter : Program → List ℕ → State → ℕ → ℕ → List ℕ
 ramAfter program ram s first second = written ram (planOf program ram s first second .write)
 
 -- What is fetched at an address is what is read there.
-pub record Fetched (program : List ℕ) (pc : ℕ) (f : Fetch) : Type 0 where
+pub record Fetched (program : Program) (pc : ℕ) (f : Fetch) : Type 0 where
   pub none : (f .number ≡ 0 → ⊥) → instructionAt program pc ≡ refused (f .number)
   pub one : f .number ≡ 0 → instructionAt program pc ≡ given (sized (makeOf (f .kind) (f .code) (f .second)) (f .bytes))
   pub next : f .number ≡ 0 → f .next ≡ pcAfter (f .bytes) pc
-  pub cycles : f .number ≡ 0 → f .cycles ≡ entryOf (byteAt program pc) .cycles
+  pub cycles : f .number ≡ 0 → f .cycles ≡ entryAt program pc .cycles

@@ -1,12 +1,14 @@
-// What a step does before its cycles are counted: reset, an interrupt call, or one instruction.
+// What a step does before its cycles are counted: reset, a wait in standby, an interrupt call, or one instruction.
 use crate::Course;
 use crate::Turn;
 use effects::Effect;
 use effects::Event;
 use isa::Refusal;
+use isa::Set;
 use machine::Count;
 use machine::Counting;
 use machine::Interrupts;
+use machine::Mode;
 use machine::Ports;
 use machine::State;
 use machine::pins;
@@ -14,11 +16,12 @@ ghost use Prim.Native.Nat.{ℕ, _≤_};
 ghost use mathlib.Core.List.{List};
 ghost use mathlib.Core.Path.{_≡_};
 ghost use lib.ListN.{length};
+ghost use Rattle.isa.specs.Reading.{Program, under};
 ghost use Rattle.isa.specs.Table.{packedRows};
 ghost use Rattle.effects.specs.Effect as defined;
 ghost use Rattle.effects.specs.Effect.{answerOf, written};
-ghost use Rattle.chip.specs.Admission.{lentNumber};
-ghost use Rattle.chip.specs.Step.{courseAnswer, declined, accepted, resetState, called, withoutRequest, done, carried, courseBy, course};
+ghost use Rattle.chip.specs.Admission.{lentOf};
+ghost use Rattle.chip.specs.Step.{courseAnswer, declined, accepted, resetState, released, waits, called, withoutRequest, done, carried, courseBy, course};
 
 fn decline(number: u8, s: State) -> Course
     ensures { λ r. ⌜ r ≡ courseAnswer (declined number s) ⌝ }
@@ -29,6 +32,7 @@ fn decline(number: u8, s: State) -> Course
         event: Event::Quiet,
         cycles: 0,
         fresh: false,
+        waited: false,
     }
 }
 
@@ -43,6 +47,7 @@ fn accept(e: Effect, cycles: u8) -> Course
         event,
         cycles,
         fresh: e.fresh,
+        waited: false,
     }
 }
 
@@ -51,6 +56,7 @@ fn reset(s: State) -> State
 {
     let q = s.ports;
     State {
+        mode: Mode::Running,
         a: s.a,
         pc: State::RESET_VECTOR,
         psw: s.psw / 64 * 64 + s.psw / 8 % 2 * 8,
@@ -74,6 +80,32 @@ fn reset(s: State) -> State
             bus: q.bus,
             driven: false,
         },
+    }
+}
+
+// INT low releases a machine that is halted or stopped.
+fn release(s: State, first: u32) -> State
+    ensures { λ r. ⌜ r ≡ released s first ⌝ }
+{
+    let low = first / pins::INT % 2 == 0;
+    if low {
+        return s.with_mode(Mode::Released);
+    }
+    s
+}
+
+// A halted or stopped machine waits: nothing but the samples used goes on.
+fn wait(s: State, first: u32) -> Course
+    ensures { λ r. ⌜ r ≡ courseAnswer (waits s first) ⌝ }
+{
+    let state = release(s, first);
+    Course {
+        number: 0,
+        state,
+        event: Event::Quiet,
+        cycles: 0,
+        fresh: false,
+        waited: true,
     }
 }
 
@@ -113,6 +145,7 @@ fn finish(e: Effect, cycles: u8, s: State) -> Course
 }
 
 fn carry_out(
+    set: Set,
     table: &[u16; 256],
     program: &[u8],
     ram: &mut [u8],
@@ -120,30 +153,32 @@ fn carry_out(
     first: u32,
     second: u32,
 ) -> Course
-    requires { ⌜ now table ≡ packedRows ⌝ }
+    requires { ⌜ now table ≡ packedRows set ⌝ }
     requires { ⌜ 64 ≤ length (now ram) ⌝ }
-    ensures answer { λ r. ⌜ r ≡ courseAnswer (carried (now (program .entry)) (now (ram .entry)) s first second) ⌝ }
-    ensures memory { λ r. ⌜ now (ram .exit) ≡ written (now (ram .entry)) (carried (now (program .entry)) (now (ram .entry)) s first second .write) ⌝ }
+    ensures answer { λ r. ⌜ r ≡ courseAnswer (carried (under set (now (program .entry))) (now (ram .entry)) s first second) ⌝ }
+    ensures memory { λ r. ⌜ now (ram .exit) ≡ written (now (ram .entry)) (carried (under set (now (program .entry))) (now (ram .entry)) s first second .write) ⌝ }
 {
-    let f = crate::fetching::fetch_at(table, program, s.pc);
+    let f = crate::fetching::fetch_at(set, table, program, s.pc);
     if f.number != 0 {
         return decline(f.number, s);
     }
     let i = isa::decode::made(f.kind, f.code, f.second);
-    let e = execute::execute(i, program, ram, s.with_pc(f.next), s.pc, first, second);
+    let e = execute::execute(i, program, ram, s.running_at(f.next), s.pc, first, second);
     finish(e, f.cycles, s)
 }
 
-// The turn of a step. It is nearly always an instruction's, so that is looked for first: no sample is refused, RESET and INT are high, and
-// no request is stored. These exclude all other turns (the law `usual`).
+// The turn of a step. It is nearly always an instruction's, so that is looked for first: no sample is refused, RESET and INT are high,
+// no request is stored, and the machine runs. These exclude all other turns (the law `usual`).
 fn turn_of(s: State, first: u32, second: u32) -> Turn
-    ensures { λ t. ⌜ ((program ram : List ℕ) → lentNumber (length program) (length ram) s ≡ 0 → course program ram s first second ≡ courseBy t program ram s first second) ⌝ }
+    ensures { λ t. ⌜ ((program : Program) (ram : List ℕ) → lentOf program ram s ≡ 0 → course program ram s first second ≡ courseBy t program ram s first second) ⌝ }
 {
     let allowed = crate::admission::samples_allowed(first, second);
+    let mode = s.mode;
     let usual = allowed
         & (first / pins::RESET % 2 == 1)
         & (first / pins::INT % 2 == 1)
-        & !s.request;
+        & !s.request
+        & machine::is_running(mode);
     if usual {
         return Turn::CarryOut;
     }
@@ -153,6 +188,19 @@ fn turn_of(s: State, first: u32, second: u32) -> Turn
     let resets = first / pins::RESET % 2 == 0;
     if resets {
         return Turn::Reset;
+    }
+    match mode {
+        Mode::HaltMode => {
+            return Turn::Wait;
+        }
+        Mode::StopMode => {
+            return Turn::Wait;
+        }
+        // One instruction runs before an interrupt may be called.
+        Mode::Released => {
+            return Turn::CarryOut;
+        }
+        Mode::Running => {}
     }
     let i = s.interrupts;
     let external = !i.service & i.external & (first / pins::INT % 2 == 0);
@@ -167,6 +215,7 @@ fn turn_of(s: State, first: u32, second: u32) -> Turn
 }
 
 pub fn course_of(
+    set: Set,
     table: &[u16; 256],
     program: &[u8],
     ram: &mut [u8],
@@ -174,16 +223,17 @@ pub fn course_of(
     first: u32,
     second: u32,
 ) -> Course
-    requires { ⌜ now table ≡ packedRows ⌝ }
-    requires { ⌜ lentNumber (length (now program)) (length (now ram)) s ≡ 0 ⌝ }
-    ensures answer { λ r. ⌜ r ≡ courseAnswer (course (now (program .entry)) (now (ram .entry)) s first second) ⌝ }
-    ensures memory { λ r. ⌜ now (ram .exit) ≡ written (now (ram .entry)) (course (now (program .entry)) (now (ram .entry)) s first second .write) ⌝ }
+    requires { ⌜ now table ≡ packedRows set ⌝ }
+    requires { ⌜ lentOf (under set (now program)) (now ram) s ≡ 0 ⌝ }
+    ensures answer { λ r. ⌜ r ≡ courseAnswer (course (under set (now (program .entry))) (now (ram .entry)) s first second) ⌝ }
+    ensures memory { λ r. ⌜ now (ram .exit) ≡ written (now (ram .entry)) (course (under set (now (program .entry))) (now (ram .entry)) s first second .write) ⌝ }
 {
     match turn_of(s, first, second) {
         Turn::Refuse => decline(isa::number(Refusal::SampleBits), s),
         Turn::Reset => accept(effects::quiet_effect(reset(s)), 1),
+        Turn::Wait => wait(s, first),
         Turn::ExternalCall => accept(call(s, ram, State::EXTERNAL_VECTOR), 2),
         Turn::TimerCall => accept(call(without_request(s), ram, State::TIMER_VECTOR), 2),
-        Turn::CarryOut => carry_out(table, program, ram, s, first, second),
+        Turn::CarryOut => carry_out(set, table, program, ram, s, first, second),
     }
 }

@@ -1,5 +1,6 @@
 // What is looked at before a step does anything.
 use isa::Refusal;
+use isa::Set;
 use machine::State;
 use machine::pins;
 ghost use mathlib.Core.Bool.{_&&_};
@@ -7,8 +8,8 @@ ghost use mathlib.Core.Path.{_≡_};
 ghost use Rattle.chip.specs.Admission.{sampleAllowed, lentNumber};
 
 // 1, 2 or 3; 0 if none.
-pub fn lent_number(program: usize, ram: usize, s: State) -> u8
-    ensures { λ n. ⌜ n ≡ lentNumber program ram s ⌝ }
+pub fn lent_number(set: Set, program: usize, ram: usize, s: State) -> u8
+    ensures { λ n. ⌜ n ≡ lentNumber set program ram s ⌝ }
 {
     let long = (program == State::PROGRAM_8048)
         | (program == State::PROGRAM_8049)
@@ -20,7 +21,7 @@ pub fn lent_number(program: usize, ram: usize, s: State) -> u8
     if !wide {
         return isa::number(Refusal::RamLength);
     }
-    let permitted = s.is_permitted();
+    let permitted = s.is_permitted(set);
     if !permitted {
         return isa::number(Refusal::StateOutside);
     }

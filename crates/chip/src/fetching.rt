@@ -1,14 +1,16 @@
 // The bytes of the instruction at PC.
 use crate::Fetch;
 use isa::Refusal;
+use isa::Set;
 ghost use mathlib.Core.Path.{_≡_};
+ghost use Rattle.isa.specs.Reading.{under};
 ghost use Rattle.isa.specs.Table.{packedRows};
 ghost use Rattle.chip.specs.Step.{Fetched};
 
 // Each return is a literal: a helper that returns a struct of 8 bytes costs time (docs/PERFORMANCE.md).
-pub fn fetch_at(table: &[u16; 256], program: &[u8], pc: u16) -> Fetch
-    requires { ⌜ now table ≡ packedRows ⌝ }
-    ensures { λ f. ⌜ Fetched (now (program .entry)) pc f ⌝ }
+pub fn fetch_at(set: Set, table: &[u16; 256], program: &[u8], pc: u16) -> Fetch
+    requires { ⌜ now table ≡ packedRows set ⌝ }
+    ensures { λ f. ⌜ Fetched (under set (now (program .entry))) pc f ⌝ }
 {
     let at = pc as usize;
     if program.len() <= at {

@@ -15,7 +15,7 @@ use Rattle.isa.specs.declared.DigitMove.the-variants.{MovdRead, MovdWrite, Orld
 use Rattle.isa.specs.declared.Flag.{Flag}
 use Rattle.isa.specs.declared.Flag.the-variants.{FlagC, FlagF0, FlagF1}
 use Rattle.isa.specs.declared.Instruction.{Instruction}
-use Rattle.isa.specs.declared.Instruction.the-variants.{Alu, Accumulator, Djnz, Branch, Jmp, Jmpp, Control, MovA, Mov, MovData, MovAPsw, MovPswA, Movp, Movp3, MovxRead, MovxWrite, Xch, Xchd, Cpl, Clr, Logic, In, Outl, Expander, Dec, Inc, Call, Ret, Retr, MovAT, MovTA, Nop}
+use Rattle.isa.specs.declared.Instruction.the-variants.{Alu, Accumulator, Djnz, Branch, Jmp, Jmpp, Control, MovA, Mov, MovData, MovAPsw, MovPswA, Movp, Movp3, MovxRead, MovxWrite, Xch, Xchd, Cpl, Clr, Logic, In, Outl, Expander, Dec, Inc, Call, Ret, Retr, MovAT, MovTA, Nop, Halt, Stop}
 use Rattle.isa.specs.declared.Latch.{Latch}
 use Rattle.isa.specs.declared.Latch.the-variants.{Bus, Port}
 use Rattle.isa.specs.declared.Operation.{Operation}
@@ -214,3 +214,5 @@ within Retr program ram s base first second h l = at-pc (at-psw h (restored-bit-
 within MovAT program ram s base first second h l = h
 within MovTA program ram s base first second h l = h
 within Nop program ram s base first second h l = h
+within Halt program ram s base first second h l = choose _ _ _ h h
+within Stop program ram s base first second h l = choose _ _ _ h h

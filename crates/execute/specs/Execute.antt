@@ -5,8 +5,9 @@ use mathlib.Core.List.{List}
 use Rattle.isa.specs.Pages.{movpAddress, jmppAddress, movp3Address}
 use Rattle.isa.specs.Reading.{byteAt}
 use Rattle.isa.specs.declared.Instruction.{Instruction}
-use Rattle.isa.specs.declared.Instruction.the-variants.{Alu, Accumulator, Djnz, Branch, Jmp, Jmpp, Control, MovA, Mov, MovData, MovAPsw, MovPswA, Movp, Movp3, MovxRead, MovxWrite, Xch, Xchd, Cpl, Clr, Logic, In, Outl, Expander, Dec, Inc, Call, Ret, Retr, MovAT, MovTA, Nop}
+use Rattle.isa.specs.declared.Instruction.the-variants.{Alu, Accumulator, Djnz, Branch, Jmp, Jmpp, Control, MovA, Mov, MovData, MovAPsw, MovPswA, Movp, Movp3, MovxRead, MovxWrite, Xch, Xchd, Cpl, Clr, Logic, In, Outl, Expander, Dec, Inc, Call, Ret, Retr, MovAT, MovTA, Nop, Halt, Stop}
 use Rattle.machine.specs.State.{withA, withPc, withPsw, withCount}
+use Rattle.machine.specs.declared.Mode.the-variants.{HaltMode, StopMode}
 use Rattle.machine.specs.declared.State.{State}
 use Rattle.accumulator.specs.Accumulator.{operated, changed}
 use Rattle.effects.specs.Effect.{Effect}
@@ -15,7 +16,7 @@ use Rattle.effects.specs.Moves.{quiet, stored, signalled, exchanged, digitsExch
 use Rattle.machine.specs.Pins.{busPins}
 use Rattle.effects.specs.Ports.{input, latchOf, output, joined, expanderMoved}
 use Rattle.effects.specs.declared.Event.the-variants.{ExternalRead, ExternalWrite}
-use Rattle.flow.specs.Control.{cleared, complemented, switched}
+use Rattle.flow.specs.Control.{cleared, complemented, switched, standingBy}
 use Rattle.flow.specs.Jumps.{farTarget, branched, decremented, tableLoaded, tableJumped}
 use Rattle.flow.specs.Stack.{pushed, returned, restored}
 
@@ -60,3 +61,5 @@ executed Retr program ram s base first second = quiet (restored s ram)
 executed MovAT program ram s base first second = quiet (withA s (s .t))
 executed MovTA program ram s base first second = quiet (withT s (s .a))
 executed Nop program ram s base first second = quiet s
+executed Halt program ram s base first second = quiet (standingBy s HaltMode first)
+executed Stop program ram s base first second = quiet (standingBy s StopMode first)

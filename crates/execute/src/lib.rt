@@ -1,4 +1,4 @@
-// What each of the 96 instructions does to the state, to RAM and to the world outside.
+// What each of the 98 instructions does to the state, to RAM and to the world outside.
 use effects::Effect;
 use effects::Event;
 use effects::memory;
@@ -13,6 +13,7 @@ use flow::stack;
 use isa::Instruction;
 use isa::pages;
 use machine::Count;
+use machine::Mode;
 use machine::State;
 ghost use mathlib.Core.Path.{_≡_};
 ghost use Prim.Native.Nat.{_≤_};
@@ -109,5 +110,7 @@ pub fn execute(
         Instruction::MovAT => quiet_effect(s.with_a(s.t)),
         Instruction::MovTA => quiet_effect(with_t(s, s.a)),
         Instruction::Nop => quiet_effect(s),
+        Instruction::Halt => quiet_effect(control::stand_by(s, Mode::HaltMode, first)),
+        Instruction::Stop => quiet_effect(control::stand_by(s, Mode::StopMode, first)),
     }
 }

@@ -1,13 +1,16 @@
 -- Flags, and what sets something in the machine.
 -- Assumes nothing.
-use Prim.Native.Nat.{_-_}
+use Prim.Native.Nat.{ℕ, _-_}
 use mathlib.Core.Bool.{Bool, true, false, not, _&&_}
+use Rattle.isa.specs.Choice.{pick}
 use Rattle.isa.specs.declared.Flag.{Flag}
 use Rattle.isa.specs.declared.Flag.the-variants.{FlagC, FlagF0, FlagF1}
 use Rattle.isa.specs.declared.Switch.{Switch}
 use Rattle.isa.specs.declared.Switch.the-variants.{EnI, DisI, Ent0Clk, SelMb0, SelMb1, SelRb0, SelRb1, EnTcnti, DisTcnti, StopTcnt, StrtCnt, StrtT}
-use Rattle.machine.specs.State.{withPsw, withFlags, withCount, withCounting, withInterrupts}
+use Rattle.machine.specs.Pins.{intPin, isLow}
+use Rattle.machine.specs.State.{withPsw, withFlags, withCount, withCounting, withInterrupts, withMode}
 use Rattle.machine.specs.declared.Counting.the-variants.{Stopped, Timer, Counter}
+use Rattle.machine.specs.declared.Mode.{Mode}
 use Rattle.machine.specs.declared.State.{State}
 use Rattle.effects.specs.Effect.{Effect}
 use Rattle.effects.specs.Moves.{quiet, started}
@@ -55,3 +58,8 @@ switched DisTcnti s = quiet (tcntiEnabled false s)
 switched StopTcnt s = quiet (withCounting s Stopped (s .divider))
 switched StrtCnt s = started (withCounting s Counter (s .divider))
 switched StrtT s = started (withCounting s Timer 0)
+
+-- HALT and STOP: the machine is halted or stopped. "HALT carried out with INT low in the first sample isn't entered; for STOP we choose the
+-- same" (document 02, item 2).
+abbrev pub standingBy : State → Mode → ℕ → State
+standingBy s mode first = pick (isLow intPin first) s (withMode s mode)

@@ -5,10 +5,12 @@ use isa::Switch;
 use machine::Count;
 use machine::Counting;
 use machine::Interrupts;
+use machine::Mode;
 use machine::State;
+use machine::pins;
 ghost use mathlib.Core.Path.{_≡_};
 ghost use Rattle.effects.specs.Effect.{answerOf};
-ghost use Rattle.flow.specs.Control.{withF1, withDbf, cleared, complemented, externalEnabled, tcntiEnabled, switched};
+ghost use Rattle.flow.specs.Control.{withF1, withDbf, cleared, complemented, externalEnabled, tcntiEnabled, switched, standingBy};
 
 fn with_f1(s: State, f1: bool) -> State
     ensures { λ r. ⌜ r ≡ withF1 s f1 ⌝ }
@@ -69,6 +71,17 @@ fn enable_tcnti(on: bool, s: State) -> State
         tcnti: on,
         service: i.service,
     })
+}
+
+// HALT and STOP: with INT low in the first sample the mode isn't entered.
+pub fn stand_by(s: State, mode: Mode, first: u32) -> State
+    ensures { λ r. ⌜ r ≡ standingBy s mode first ⌝ }
+{
+    let low = first / pins::INT % 2 == 0;
+    if low {
+        return s;
+    }
+    s.with_mode(mode)
 }
 
 pub fn switch(op: Switch, s: State) -> Effect

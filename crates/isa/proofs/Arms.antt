@@ -22,6 +22,6 @@ past : (n x : ℕ) → NoKey n x → (x ≡ 0 → ⊥) → suc n ≤ x
 past zero x r h = omega (arith, h)
 past (suc n) x r h = let below : suc n ≤ x = past n x (r .0) h in omega (arith, r .1)
 
-pub last : (kind b d : ℕ) → NoKey 96 kind → Nop ≡ makeOf kind b d
+pub last : (kind b d : ℕ) → NoKey 98 kind → Nop ≡ makeOf kind b d
 last zero b d r = refl
-last (suc k) b d r = rw (List·getD-eq-default (undefinedRow ∷ rows) undefinedRow (past 96 (suc k) r (λ z. omega arith)))
+last (suc k) b d r = rw (List·getD-eq-default (undefinedRow ∷ rows) undefinedRow (past 98 (suc k) r (λ z. omega arith)))

@@ -5,3 +5,4 @@ pub mod Entries
 pub mod Everywhere
 pub mod Finding
 pub mod Once
+pub mod Sets

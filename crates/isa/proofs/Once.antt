@@ -3,14 +3,13 @@
 -- answer, from which the answer follows.
 -- Assumes nothing.
 use mathlib.Core.Path.{_≡_, refl, sym, _∙_, ap}
-use mathlib.Core.List.{List}
 use Prim.Native.Nat.{ℕ}
 use lib.Dec.{eqb}
 use Rattle.isa.specs.Choice.{pick}
 use Rattle.isa.specs.Numbers.{numberOf}
-use Rattle.isa.specs.Reading.{readOf, readAs}
+use Rattle.isa.specs.Reading.{Program, readOf, readAs}
 use Rattle.isa.specs.declared.Refusal.{Refusal}
-use Rattle.isa.specs.declared.Refusal.the-variants.{ProgramLength, RamLength, StateOutside, UndefinedCode, PastEnd, SampleBits, LineTooShort, OperandTooLarge}
+use Rattle.isa.specs.declared.Refusal.the-variants.{ProgramLength, RamLength, StateOutside, UndefinedCode, PastEnd, SampleBits, LineTooShort, OperandTooLarge, SetUnknown}
 use Rattle.isa.specs.declared.Decoded.{Decoded}
 use Rattle.isa.specs.declared.Decoded.the-variants.{Found, Unread}
 
@@ -26,7 +25,8 @@ named n =
     (pick (eqb n 4) UndefinedCode
     (pick (eqb n 5) PastEnd
     (pick (eqb n 6) SampleBits
-    (pick (eqb n 7) LineTooShort OperandTooLarge))))))
+    (pick (eqb n 7) LineTooShort
+    (pick (eqb n 23) OperandTooLarge SetUnknown)))))))
 
 named-number : (r : Refusal) → named (numberOf r) ≡ r
 unfolding named pick
@@ -38,6 +38,7 @@ named-number PastEnd = refl
 named-number SampleBits = refl
 named-number LineTooShort = refl
 named-number OperandTooLarge = refl
+named-number SetUnknown = refl
 
 -- No two refusals have one number.
 pub one-number : (r s : Refusal) → numberOf r ≡ numberOf s → r ≡ s
@@ -49,5 +50,5 @@ read-as-once (Found i m) (Unread r) e = cc
 read-as-once (Unread r) (Found j n) e = cc
 read-as-once (Unread r) (Unread s) e = let n : numberOf r ≡ numberOf s = cc in ap Unread (one-number r s n)
 
-pub read-once : (program : List ℕ) (a : ℕ) (r s : Decoded) → readAs r ≡ readOf program a → readAs s ≡ readOf program a → r ≡ s
+pub read-once : (program : Program) (a : ℕ) (r s : Decoded) → readAs r ≡ readOf program a → readAs s ≡ readOf program a → r ≡ s
 read-once program a r s p q = read-as-once r s (once p q)

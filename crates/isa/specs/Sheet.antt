@@ -1,12 +1,13 @@
--- The sheet: the instruction set, row by row in the order and the words of source document 001. A row has the code's bits, the place
--- of its operand, bytes, cycles, the instruction and its text. Reading, writing, lengths, cycles and the listing all go by it.
+-- The sheet: the instruction sets, row by row in the order and the words of source document 001; last come the two rows that source document
+-- 000 adds. A row has the code's bits, the place of its operand, bytes, cycles, the instruction and its text. Reading, writing, lengths,
+-- cycles and the listing all go by it.
 -- Assumes nothing.
 use Prim.Native.Nat.{ℕ, suc, _*_, _/_, _%_, _+_}
 use Prim.Native.String.{String}
 use mathlib.Core.Bool.{Bool, _&&_}
 use mathlib.Core.List.{List, [], _∷_}
 use lib.Dec.{eqb}
-use lib.ListN.{getD}
+use lib.ListN.{getD, take}
 use Rattle.isa.specs.Choice.{pick, within}
 use Rattle.isa.specs.declared.Cell.the-variants.{Register, Indirect}
 use Rattle.isa.specs.declared.Source.the-variants.{FromRegister, FromIndirect, Immediate}
@@ -19,7 +20,9 @@ use Rattle.isa.specs.declared.Join.the-variants.{AnlLatch, OrlLatch}
 use Rattle.isa.specs.declared.DigitMove.the-variants.{MovdRead, MovdWrite, Orld, Anld}
 use Rattle.isa.specs.declared.Switch.the-variants.{EnI, DisI, Ent0Clk, SelMb0, SelMb1, SelRb0, SelRb1, EnTcnti, DisTcnti, StopTcnt, StrtCnt, StrtT}
 use Rattle.isa.specs.declared.Instruction.{Instruction}
-use Rattle.isa.specs.declared.Instruction.the-variants.{Alu, Accumulator, Djnz, Branch, Jmp, Jmpp, Control, MovA, Mov, MovData, MovAPsw, MovPswA, Movp, Movp3, MovxRead, MovxWrite, Xch, Xchd, Cpl, Clr, Logic, In, Outl, Expander, Dec, Inc, Call, Ret, Retr, MovAT, MovTA, Nop}
+use Rattle.isa.specs.declared.Instruction.the-variants.{Alu, Accumulator, Djnz, Branch, Jmp, Jmpp, Control, MovA, Mov, MovData, MovAPsw, MovPswA, Movp, Movp3, MovxRead, MovxWrite, Xch, Xchd, Cpl, Clr, Logic, In, Outl, Expander, Dec, Inc, Call, Ret, Retr, MovAT, MovTA, Nop, Halt, Stop}
+use Rattle.isa.specs.declared.Set.{Set}
+use Rattle.isa.specs.declared.Set.the-variants.{Intel, Nec}
 use Rattle.isa.specs.declared.table.Entry.{Entry}
 
 -- Where a code has its operand: nowhere; in bits 0-2, with a value from the first number to the second; in bits 5-7.
@@ -40,7 +43,7 @@ abbrev pub row : ℕ → Place → ℕ → ℕ → (ℕ → ℕ → Instruction)
 row code place bytes cycles make text =
     record { code = code; place = place; bytes = bytes; cycles = cycles; make = make; text = text }
 
--- The 96 instructions. In the instruction n is the operand in the code and d the second byte. In the text a small letter stands for a
+-- The 98 instructions. In the instruction n is the operand in the code and d the second byte. In the text a small letter stands for a
 -- number: r and p the register and the port in bits 0-2 of the code, b bits 5-7, d the second byte, a an address of 11 bits, t an
 -- address in the page. Cycles are document 01's: it gives two to OUTL, MOVD and ORLD, where 001 prints one.
 abbrev pub rows : List Row
@@ -151,7 +154,15 @@ rows =
     row 0b0101_0101 none 1 1 (λ n d. Control StrtT) "STRT T" ∷
     -- Miscellaneous
     row 0b0000_0000 none 1 1 (λ n d. Nop) "NOP" ∷
+    -- Standby
+    row 0b0000_0001 none 1 1 (λ n d. Halt) "HALT" ∷
+    row 0b1000_0010 none 1 1 (λ n d. Stop) "STOP" ∷
     []
+
+-- What each set has: Intel's the first 96, the µPD80C49H's all. "It adds HALT at 01 and STOP at 82" (document 02, item 2).
+abbrev pub rowsOf : Set → List Row
+rowsOf Intel = take 96 rows
+rowsOf Nec = rows
 
 -- What stands for an undefined code: a data byte, which is the code itself. It has 0 bytes, which no instruction has, and so is told by them.
 abbrev pub undefinedRow : Row
@@ -169,25 +180,26 @@ operandIn none b = 0
 operandIn (low from to) b = b % 8
 operandIn high b = b / 32
 
--- The kind of a code is the number of the first row that it fits, counted from 1; 0 if it fits none.
+-- The kind of a code in a set is the number of the first of the set's rows that it fits, counted from 1; 0 if it fits none.
 abbrev pub kindFrom : ℕ → List Row → ℕ → ℕ
 kindFrom k [] b = 0
 kindFrom k (w ∷ ws) b = pick (fits (w .place) (w .code) b) k (kindFrom (suc k) ws b)
 
-unfoldable pub kindOf : ℕ → ℕ
-kindOf b = kindFrom 1 rows b
+unfoldable pub kindOf : Set → ℕ → ℕ
+kindOf set b = kindFrom 1 (rowsOf set) b
 
 abbrev pub rowOf : ℕ → Row
 rowOf kind = getD (undefinedRow ∷ rows) kind undefinedRow
 
 -- "One table of 256 entries gives length, cycles and kind."
-unfoldable pub entryOf : ℕ → Entry
-entryOf b = record { bytes = rowOf (kindOf b) .bytes; cycles = rowOf (kindOf b) .cycles; kind = kindOf b }
+unfoldable pub entryOf : Set → ℕ → Entry
+entryOf set b =
+    record { bytes = rowOf (kindOf set b) .bytes; cycles = rowOf (kindOf set b) .cycles; kind = kindOf set b }
 
 -- The instruction of a row, for the code b and the second byte d.
 abbrev pub makeOf : ℕ → ℕ → ℕ → Instruction
 makeOf kind b d = rowOf kind .make (operandIn (rowOf kind .place) b) d
 
--- The instruction whose bytes are the code b and the second byte d, if it has one.
-abbrev pub instructionOf : ℕ → ℕ → Instruction
-instructionOf b d = makeOf (entryOf b .kind) b d
+-- The instruction of a set whose bytes are the code b and the second byte d, if it has one.
+abbrev pub instructionOf : Set → ℕ → ℕ → Instruction
+instructionOf set b d = makeOf (entryOf set b .kind) b d

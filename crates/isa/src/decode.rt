@@ -133,6 +133,9 @@ pub fn made(kind: u8, code: u8, d: u8) -> Instruction
         95 => Instruction::Control(Switch::StrtT),
         // Miscellaneous
         96 => Instruction::Nop,
+        // Standby
+        97 => Instruction::Halt,
+        98 => Instruction::Stop,
         _ => Instruction::Nop,
     }
 }

@@ -1,7 +1,7 @@
-// The instruction set of the MCS-48 family: its 96 instructions, the table of the 256 codes, and the reader.
+// The instruction sets of the MCS-48 family: Intel's 96 instructions and NEC's 98, the table of the 256 codes, and the reader.
 ghost use mathlib.Core.Path.{_≡_};
 ghost use Rattle.isa.specs.Numbers.{numberOf};
-ghost use Rattle.isa.specs.Reading.{decodedAt, nextPc, readAs, readOf};
+ghost use Rattle.isa.specs.Reading.{decodedAt, nextPc, readAs, readOf, under};
 
 pub mod decode; // from a row's number and the bytes to the instruction
 pub mod pages; // the 256-byte pages of jumps and tables
@@ -20,6 +20,13 @@ pub enum Refusal {
     SampleBits,
     LineTooShort,
     OperandTooLarge,
+    SetUnknown,
+}
+
+// Whose instruction set a program is written in: Intel's, or that of NEC's µPD80C49H, which adds HALT and STOP.
+pub enum Set {
+    Intel,
+    Nec,
 }
 
 // A cell of RAM: Rr of the bank in use, or @Rr, the cell whose address R0 or R1 holds.
@@ -117,7 +124,7 @@ pub enum Switch {
     StrtT,
 }
 
-// The 96 instructions by families, under the data sheet's mnemonics; a number is a register, a port, a data byte or an address.
+// The 98 instructions by families, under the data sheet's mnemonics; a number is a register, a port, a data byte or an address.
 // JMP and CALL hold 11 bits of an address, a conditional jump the low 8.
 pub enum Instruction {
     // ADD, ADDC, ANL, ORL, XRL A,..
@@ -161,6 +168,9 @@ pub enum Instruction {
     MovAT,
     MovTA,
     Nop,
+    // the NEC set alone has these two
+    Halt,
+    Stop,
 }
 
 // What the reader answers.
@@ -183,6 +193,7 @@ pub fn number(r: Refusal) -> u8
         Refusal::SampleBits => 6,
         Refusal::LineTooShort => 7,
         Refusal::OperandTooLarge => 23,
+        Refusal::SetUnknown => 25,
     }
 }
 
@@ -194,10 +205,10 @@ pub fn next_pc(pc: u16) -> u16
 }
 
 // The instruction whose first byte, at `pc`, is `code`.
-fn decoded_at(program: &[u8], pc: u16, code: u8) -> Decoded
-    ensures { λ r. ⌜ readAs r ≡ decodedAt (now (program .entry)) pc code ⌝ }
+fn decoded_at(set: Set, program: &[u8], pc: u16, code: u8) -> Decoded
+    ensures { λ r. ⌜ readAs r ≡ decodedAt (under set (now (program .entry))) pc code ⌝ }
 {
-    let e = table::entry_of(code);
+    let e = table::entry_of(set, code);
     let bytes = e.bytes;
     let kind = e.kind;
     if bytes == 0 {
@@ -214,8 +225,8 @@ fn decoded_at(program: &[u8], pc: u16, code: u8) -> Decoded
 }
 
 // The instruction at an address of a program, which may have up to 4,096 bytes.
-pub fn read(program: &[u8], address: usize) -> Decoded
-    ensures { λ r. ⌜ readAs r ≡ readOf (now (program .entry)) address ⌝ }
+pub fn read(set: Set, program: &[u8], address: usize) -> Decoded
+    ensures { λ r. ⌜ readAs r ≡ readOf (under set (now (program .entry))) address ⌝ }
 {
     if PROGRAM_LIMIT < program.len() {
         return Decoded::Unread(Refusal::ProgramLength);
@@ -223,5 +234,5 @@ pub fn read(program: &[u8], address: usize) -> Decoded
     if program.len() <= address {
         return Decoded::Unread(Refusal::PastEnd);
     }
-    decoded_at(program, address as u16, program[address])
+    decoded_at(set, program, address as u16, program[address])
 }

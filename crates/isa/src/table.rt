@@ -1,5 +1,6 @@
 // The opcode table. One entry a code: the kind, which is the number of the code's row in specs/Sheet.antt, in the two upper hex
 // digits, then the cycles, then the bytes. An undefined code has kind 0, no cycle and no byte.
+use crate::Set;
 ghost use mathlib.Core.Path.{_≡_};
 ghost use lib.ListN.{getD};
 ghost use Rattle.isa.specs.Sheet.{entryOf};
@@ -12,6 +13,7 @@ pub struct Entry {
     pub kind: u8,
 }
 
+// Intel's codes.
 const TABLE: [u16; 256] = [
     0x6011, // 00 NOP
     0x0000, // 01
@@ -272,10 +274,18 @@ const TABLE: [u16; 256] = [
 ];
 
 // The whole table. A constant array is built anew wherever it is used: who looks up many codes asks once and lends it.
-pub fn opcodes() -> [u16; 256]
-    ensures { λ r. ⌜ r ≡ packedRows ⌝ }
+pub fn opcodes(set: Set) -> [u16; 256]
+    ensures { λ r. ⌜ r ≡ packedRows set ⌝ }
 {
-    TABLE
+    let mut table = TABLE;
+    match set {
+        Set::Intel => {}
+        Set::Nec => {
+            table[0x01] = 0x6111; // HALT
+            table[0x82] = 0x6211; // STOP
+        }
+    }
+    table
 }
 
 // A code's entry in a lent table.
@@ -291,10 +301,10 @@ pub fn entry_in(table: &[u16; 256], code: u8) -> Entry
     }
 }
 
-// A code's entry.
-pub fn entry_of(code: u8) -> Entry
-    ensures { λ r. ⌜ r ≡ entryOf code ⌝ }
+// A code's entry in a set.
+pub fn entry_of(set: Set, code: u8) -> Entry
+    ensures { λ r. ⌜ r ≡ entryOf set code ⌝ }
 {
-    let table = opcodes();
+    let table = opcodes(set);
     entry_in(&table, code)
 }

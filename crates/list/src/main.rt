@@ -1,6 +1,7 @@
-// Lists the program on standard input, line by line: at most 4,096 bytes, or `refused 1`.
+// Lists the program on standard input, line by line, by Intel's set: at most 4,096 bytes, or `refused 1`.
 use isa::PROGRAM_LIMIT;
 use isa::Refusal;
+use isa::Set;
 use libc::STDIN_FILENO;
 use libc::STDOUT_FILENO;
 use listing::LINE_BYTES;
@@ -22,7 +23,7 @@ fn write_lines(program: &[u8]) {
     let mut line = [0u8; LINE_BYTES];
     let mut at = 0;
     while at < program.len() {
-        match listing::line(program, at, &mut line) {
+        match listing::line(Set::Intel, program, at, &mut line) {
             Listed::Printed(n, size) => {
                 io::write_all(STDOUT_FILENO, &line[..n]);
                 at += size as usize;

@@ -1,4 +1,5 @@
--- How many bytes a line shows, and that the lines of a listing show every address of the program once, in order.
+-- How many bytes a line shows, and that the lines of a listing show every address of the program once, in order: each begins where the one
+-- before it ends.
 -- Assumes nothing.
 use Prim.Native.Nat.{ℕ, zero, suc, _+_, _-_, _%_, _<_, _≤_}
 use mathlib.Core.Bool.{Bool, true, false, _&&_}
@@ -11,16 +12,19 @@ use lib.ListN.{length}
 use borrow.Author.Tests.{ltb-true, leb-true, leb-false}
 use Rattle.isa.specs.Choice.{pick, listed}
 use Rattle.isa.specs.Numbers.{given, refused}
-use Rattle.isa.specs.Reading.{lacks, byteAt, Bytes}
-use Rattle.isa.specs.Sheet.{entryOf}
+use Rattle.isa.specs.Reading.{Program, lacks, entryAt, Bytes}
 use Rattle.listing.specs.Listing.{twoAt, sizeAt, lineAt, shown, listedOf, shownFrom}
 use Rattle.listing.proofs.Short.{line-short}
 
+-- The address past a program's last byte.
+abbrev pub endOf : Program → ℕ
+endOf program = length (program .bytes)
+
 -- A line shows one byte or two, and only such as the program has.
-pub record Sized (program : List ℕ) (a : ℕ) : Type 0 where
+pub record Sized (program : Program) (a : ℕ) : Type 0 where
   pub some : 1 ≤ sizeAt program a
   pub few : sizeAt program a ≤ 2
-  pub there : a < length program → a + sizeAt program a ≤ length program
+  pub there : a < endOf program → a + sizeAt program a ≤ endOf program
 
 -- Of three tests that all hold, the last holds.
 last-of : (p q r : Bool) → (p && (q && r)) ≡ true → r ≡ true
@@ -29,35 +33,35 @@ last-of true false r h = let z : _≡_ {A = ℕ} 0 1 = cc in absurd (omega arith
 last-of false q r h = let z : _≡_ {A = ℕ} 0 1 = cc in absurd (omega arith)
 
 -- By the tests that choose a line of two bytes: the last of them is that the second byte is there.
-pub size-at : (program : List ℕ) (a : ℕ) → Sized program a
+pub size-at : (program : Program) (a : ℕ) → Sized program a
 unfolding sizeAt pick
-size-at program a = go (twoAt program a (entryOf (byteAt program a))) refl
+size-at program a = go (twoAt (program .bytes) a (entryAt program a)) refl
   where
-    go : (b : Bool) → twoAt program a (entryOf (byteAt program a)) ≡ b → Sized program a
+    go : (b : Bool) → twoAt (program .bytes) a (entryAt program a) ≡ b → Sized program a
     go true h =
-        let in-range : a + 1 < length program =
-        ltb-true (a + 1) (length program)
-        (last-of (eqb (entryOf (byteAt program a) .bytes) 2) (ltb (a % 2048) 2047) (ltb (a + 1) (length program)) h)
+        let in-range : a + 1 < endOf program =
+        ltb-true (a + 1) (endOf program)
+        (last-of (eqb (entryAt program a .bytes) 2) (ltb (a % 2048) 2047) (ltb (a + 1) (endOf program)) h)
         in
         record { some = rw h (lit≤ tt); few = rw h (lit≤ tt); there = λ l. rw h (omega arith) }
     go false h = record { some = rw h (lit≤ tt); few = rw h (lit≤ tt); there = λ l. rw h (omega arith) }
 
 -- What `line` gives: a line of at most 32 bytes, which shows a byte or more of the program and none past its end.
-pub record Given (program : List ℕ) (a n size : ℕ) : Type 0 where
+pub record Given (bytes : List ℕ) (a n size : ℕ) : Type 0 where
   pub short : n ≤ 32
   pub some : 1 ≤ size
-  pub there : a + size ≤ length program
+  pub there : a + size ≤ length bytes
 
 -- The answer is the line only where no refusal comes first.
 pub line-given :
-    (program : List ℕ) (a room n size : ℕ) → Bytes program → given (shown n size) ≡ listedOf program a room → Given program a n size
+    (program : Program) (a room n size : ℕ) → Bytes (program .bytes) → given (shown n size) ≡ listedOf program a room → Given (program .bytes) a n size
 unfolding listedOf pick
-line-given program a room n size small e = go (ltb 4096 (length program)) (ltb room 32) (lacks program a) refl e
+line-given program a room n size small e = go (ltb 4096 (length (program .bytes))) (ltb room 32) (lacks (program .bytes) a) refl e
   where
     go :
-        (p q r : Bool) → lacks program a ≡ r
+        (p q r : Bool) → lacks (program .bytes) a ≡ r
         → given (shown n size) ≡ pick p (refused 1) (pick q (refused 7) (pick r (refused 5) (given (shown (length (lineAt program a)) (sizeAt program a)))))
-        → Given program a n size
+        → Given (program .bytes) a n size
     go true q r l e = let z : _≡_ {A = ℕ} 0 1 = cc in absurd (omega arith)
     go false true r l e = let z : _≡_ {A = ℕ} 0 1 = cc in absurd (omega arith)
     go false false true l e = let z : _≡_ {A = ℕ} 0 1 = cc in absurd (omega arith)
@@ -77,30 +81,30 @@ listed-parts (suc s) m a =
 
 -- The lines from an address on show every address from there to the end once, in order.
 shown-from :
-    (n : ℕ) (program : List ℕ) (a : ℕ) → a ≤ length program → length program ≤ a + n
-    → shownFrom n program a ≡ listed (λ k. k) (length program - a) a
+    (n : ℕ) (program : Program) (a : ℕ) → a ≤ endOf program → endOf program ≤ a + n
+    → shownFrom n program a ≡ listed (λ k. k) (endOf program - a) a
 unfolding shownFrom pick
-shown-from zero program a h l = let z : length program - a ≡ 0 = omega arith in rw z
+shown-from zero program a h l = let z : endOf program - a ≡ 0 = omega arith in rw z
 shown-from (suc n) program a h l =
     let size = size-at program a in
     let some : 1 ≤ sizeAt program a = size .some in
-    go (λ (t : a < length program). shown-from n program (a + sizeAt program a) (size .there t) (omega arith)) (lacks program a) refl
+    go (λ (t : a < endOf program). shown-from n program (a + sizeAt program a) (size .there t) (omega arith)) (lacks (program .bytes) a) refl
   where
     go :
-        (a < length program → shownFrom n program (a + sizeAt program a) ≡ listed (λ k. k) (length program - (a + sizeAt program a)) (a + sizeAt program a))
-        → (b : Bool) → lacks program a ≡ b
-        → pick b [] (listed (λ k. k) (sizeAt program a) a ++ shownFrom n program (a + sizeAt program a)) ≡ listed (λ k. k) (length program - a) a
+        (a < endOf program → shownFrom n program (a + sizeAt program a) ≡ listed (λ k. k) (endOf program - (a + sizeAt program a)) (a + sizeAt program a))
+        → (b : Bool) → lacks (program .bytes) a ≡ b
+        → pick b [] (listed (λ k. k) (sizeAt program a) a ++ shownFrom n program (a + sizeAt program a)) ≡ listed (λ k. k) (endOf program - a) a
     go later true e =
-        let past : length program ≤ a = leb-true _ _ e in
-        let z : length program - a ≡ 0 = omega arith in
+        let past : endOf program ≤ a = leb-true _ _ e in
+        let z : endOf program - a ≡ 0 = omega arith in
         rw z
     go later false e =
-        let there : a < length program = leb-false _ _ e in
-        let fits : a + sizeAt program a ≤ length program = size-at program a .there there in
-        let sum : sizeAt program a + (length program - (a + sizeAt program a)) ≡ length program - a = omega arith in
+        let there : a < endOf program = leb-false _ _ e in
+        let fits : a + sizeAt program a ≤ endOf program = size-at program a .there there in
+        let sum : sizeAt program a + (endOf program - (a + sizeAt program a)) ≡ endOf program - a = omega arith in
         ap (λ (x : List ℕ). listed (λ k. k) (sizeAt program a) a ++ x) (later there)
-        ∙ listed-parts (sizeAt program a) (length program - (a + sizeAt program a)) a ∙ rw sum
+        ∙ listed-parts (sizeAt program a) (endOf program - (a + sizeAt program a)) a ∙ rw sum
 
 -- The lines of a listing show every address of the program once, in order.
-pub shown-all : (program : List ℕ) → shownFrom (length program) program 0 ≡ listed (λ k. k) (length program) 0
-shown-all program = let z : length program - 0 ≡ length program = omega arith in rw z at (shown-from (length program) program 0 (omega arith) (omega arith))
+pub shown-all : (program : Program) → shownFrom (endOf program) program 0 ≡ listed (λ k. k) (endOf program) 0
+shown-all program = let z : endOf program - 0 ≡ endOf program = omega arith in rw z at (shown-from (endOf program) program 0 (omega arith) (omega arith))

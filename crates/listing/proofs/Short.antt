@@ -1,4 +1,4 @@
--- A line of the listing has at most 32 bytes.
+-- A line of the listing has at most 32 bytes: 12 stand before the text and the LF after it, and no row's text takes more than 19.
 -- Assumes nothing.
 use Rattle.isa.specs.Choice.{pick}
 use mathlib.Core.Path.{refl}
@@ -6,11 +6,11 @@ use mathlib.Core.List.{List, [], _∷_, _++_}
 use mathlib.Core.Bool.{Bool, true, false}
 use Prim.Native.Nat.{ℕ, _+_, _*_, _/_, _%_, _<_, _≤_, zero-le}
 use native.Mathlib.Omega.{arith}
-use lib.ListN.{length, getD, length-append}
+use lib.ListN.{length, length-append}
 use lib.Dec.{ltb, eqb, leb, leb→le, lit≤}
 use Rattle.isa.proofs.Everywhere.{everywhere}
 use Rattle.isa.specs.declared.table.Entry.{Entry}
-use Rattle.isa.specs.Sheet.{entryOf}
+use Rattle.isa.specs.Reading.{Program, byteAt, entryAt}
 use Rattle.isa.specs.Pages.{branchTarget}
 use Rattle.listing.specs.Text.{ascii, digitOf, hex2, hex3, byteNumber, addressNumber, expand, expandAll, lettersOf, lineOne, lineTwo}
 use Rattle.listing.specs.Listing.{twoAt, lineAt}
@@ -63,30 +63,33 @@ text-short : (a b d : ℕ) (xs : List ℕ) → length (expandAll a b d xs) ≤ w
 text-short a b d [] = zero-le
 text-short a b d (x ∷ xs) = rw length-append (omega (arith, letter-short a b d x, text-short a b d xs))
 
-row-short : (kind : ℕ) → kind < 97 → width (lettersOf kind) ≤ 19
+row-short : (kind : ℕ) → kind < 99 → width (lettersOf kind) ≤ 19
 unfolding lettersOf pick
-row-short kind h = leb→le (width (lettersOf kind)) 19 (rw (everywhere (λ k. leb (width (lettersOf k)) 19) (λ k. true) 97 refl kind h) tt)
+row-short kind h = leb→le (width (lettersOf kind)) 19 (rw (everywhere (λ k. leb (width (lettersOf k)) 19) (λ k. true) 99 refl kind h) tt)
 
-one-short : (kind a b : ℕ) → kind < 97 → length (lineOne kind a b) ≤ 32
+one-short : (kind a b : ℕ) → kind < 99 → length (lineOne kind a b) ≤ 32
 one-short kind a b h = simp length-append (omega (arith, row-short kind h, text-short a b b (lettersOf kind)))
 
-two-short : (kind a b d : ℕ) → kind < 97 → length (lineTwo kind a b d) ≤ 32
+two-short : (kind a b d : ℕ) → kind < 99 → length (lineTwo kind a b d) ≤ 32
 two-short kind a b d h = simp length-append (omega (arith, row-short kind h, text-short a b d (lettersOf kind)))
 
-pub line-short : (program : List ℕ) (a : ℕ) → getD program a 0 < 256 → length (lineAt program a) ≤ 32
+pub line-short : (program : Program) (a : ℕ) → byteAt (program .bytes) a < 256 → length (lineAt program a) ≤ 32
 unfolding lineAt pick
-line-short program a h = go (twoAt program a e) (eqb (e .bytes) 1)
+line-short program a h = go (twoAt (program .bytes) a e) (eqb (e .bytes) 1)
   where
     b : ℕ
-    b = getD program a 0
+    b = byteAt (program .bytes) a
+
+    d : ℕ
+    d = byteAt (program .bytes) (a + 1)
 
     e : Entry
-    e = entryOf b
+    e = entryAt program a
 
-    small : e .kind < 97
-    small = kind-small e b refl h
+    small : e .kind < 99
+    small = kind-small (program .set) e b refl h
 
-    go : (p q : Bool) → length (pick p (lineTwo (e .kind) a b (getD program (a + 1) 0)) (pick q (lineOne (e .kind) a b) (lineOne 0 a b))) ≤ 32
-    go true q = two-short (e .kind) a b (getD program (a + 1) 0) small
+    go : (p q : Bool) → length (pick p (lineTwo (e .kind) a b d) (pick q (lineOne (e .kind) a b) (lineOne 0 a b))) ≤ 32
+    go true q = two-short (e .kind) a b d small
     go false true = one-short (e .kind) a b small
     go false false = one-short 0 a b (lit≤ tt)

@@ -1,4 +1,4 @@
--- Laws of the rows' texts: how they are put letter by letter, and how long they are.
+-- Laws of the rows' texts: how they are put letter by letter, and how long they are; what holds of every row or code is computed over the sheet.
 -- Assumes nothing.
 use mathlib.Core.Path.{_≡_, refl, sym, _∙_, ap}
 use mathlib.Core.List.{List, [], _∷_, _++_, append-assoc, append-nil}
@@ -10,6 +10,8 @@ use lib.ListN.{length, getD}
 use lib.Dec.{eqb, leb, leb→le}
 use borrow.Author.Tests.{eq-eqb}
 use Rattle.isa.proofs.Everywhere.{everywhere}
+use Rattle.isa.specs.declared.Set.{Set}
+use Rattle.isa.specs.declared.Set.the-variants.{Intel, Nec}
 use Rattle.isa.specs.declared.table.Entry.{Entry}
 use Rattle.isa.specs.Choice.{pick, listed}
 use Rattle.isa.specs.Sheet.{entryOf, kindOf}
@@ -30,9 +32,9 @@ pub listed-at : (f : ℕ → ℕ) (n k : ℕ) → k < n → getD (listed f n 0) 
 listed-at f n k h = listed-from f n 0 k h ∙ ap f (zero-add k)
 
 -- a text has at most ten letters, and none is a dot
-pub letters-short : (kind : ℕ) → kind < 97 → length (lettersOf kind) ≤ 10
+pub letters-short : (kind : ℕ) → kind < 99 → length (lettersOf kind) ≤ 10
 unfolding lettersOf
-letters-short kind h = leb→le (length (lettersOf kind)) 10 (rw (everywhere (λ k. leb (length (lettersOf k)) 10) (λ k. true) 97 refl kind h) tt)
+letters-short kind h = leb→le (length (lettersOf kind)) 10 (rw (everywhere (λ k. leb (length (lettersOf k)) 10) (λ k. true) 99 refl kind h) tt)
 
 abbrev noDot : List ℕ → Bool
 noDot [] = true
@@ -47,11 +49,16 @@ dot-past (x ∷ xs) e (suc i) z = suc-le-suc (dot-past xs (later (not (eqb x 46)
     later true h = h
     later false h = let n : _≡_ {A = ℕ} 0 1 = cc in absurd (omega arith)
 
-pub letters-end : (kind : ℕ) → kind < 97 → (i : ℕ) → getD (lettersOf kind) i 46 ≡ 46 → length (lettersOf kind) ≤ i
+pub letters-end : (kind : ℕ) → kind < 99 → (i : ℕ) → getD (lettersOf kind) i 46 ≡ 46 → length (lettersOf kind) ≤ i
 unfolding lettersOf
-letters-end kind h i z = dot-past (lettersOf kind) (everywhere (λ k. noDot (lettersOf k)) (λ k. true) 97 refl kind h) i z
+letters-end kind h i z = dot-past (lettersOf kind) (everywhere (λ k. noDot (lettersOf k)) (λ k. true) 99 refl kind h) i z
 
--- a kind of the table is that of a row, or 0
-pub kind-small : (e : Entry) (b : ℕ) → e ≡ entryOf b → b < 256 → e .kind < 97
+-- a kind of a set's table is that of a row, or 0
+kinds-small : (set : Set) → listed (λ k. leb (suc (entryOf set k .kind)) 99) 256 0 ≡ listed (λ k. true) 256 0
 unfolding entryOf kindOf pick
-kind-small e b p h = rw p (leb→le (suc (entryOf b .kind)) 97 (rw (everywhere (λ k. leb (suc (entryOf k .kind)) 97) (λ k. true) 256 refl b h) tt))
+kinds-small Intel = refl
+kinds-small Nec = refl
+
+pub kind-small : (set : Set) (e : Entry) (b : ℕ) → e ≡ entryOf set b → b < 256 → e .kind < 99
+kind-small set e b p h =
+    rw p (leb→le (suc (entryOf set b .kind)) 99 (rw (everywhere (λ k. leb (suc (entryOf set k .kind)) 99) (λ k. true) 256 (kinds-small set) b h) tt))

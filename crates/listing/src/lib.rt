@@ -1,10 +1,12 @@
 // One line of a listing: address, bytes, text, LF.
 use isa::PROGRAM_LIMIT;
 use isa::Refusal;
+use isa::Set;
 ghost use mathlib.Core.Path.{_≡_};
 ghost use mathlib.Core.List.{[], _∷_, _++_};
 ghost use Prim.Native.Nat.{_+_, _*_, _≤_, _<_};
 ghost use lib.ListN.{length, take, drop, getD};
+ghost use Rattle.isa.specs.Reading.{under};
 ghost use Rattle.listing.specs.Draft.{cut, textIn, Adds};
 ghost use Rattle.listing.specs.Listing.{lineAt, sizeAt, listedAs, listedOf, lineAfter};
 ghost use Rattle.listing.specs.Text.{digitOf, hex2, hex3, lead, byteNumber, addressNumber, ascii, expand, expandAll, lettersOf, ending, lineOne, lineTwo};
@@ -98,7 +100,7 @@ fn put_letter(l: Draft, a: u16, code: u8, d: u8, letter: u8) -> Draft
 }
 
 // The texts of the rows of isa's sheet by their numbers, ten bytes each, filled up with dots; first that of an undefined code.
-const TEXTS: [u8; 970] = *b"\
+const TEXTS: [u8; 990] = *b"\
     DB d......ADD A,#d..ADD A,Rr..ADD A,@Rr.ADDC A,#d.ADDC A,Rr.ADDC A,@RrANL A,#d..ANL A,Rr..ANL A,@Rr.\
     CPL A.....CLR A.....DA A......DEC A.....INC A.....ORL A,#d..ORL A,Rr..ORL A,@Rr.RL A......RLC A.....\
     RR A......RRC A.....SWAP A....XRL A,#d..XRL A,Rr..XRL A,@Rr.DJNZ Rr,t.JBb t.....JC t......JF0 t.....\
@@ -108,10 +110,10 @@ const TEXTS: [u8; 970] = *b"\
     MOVX A,@RrMOVX @Rr,AXCH A,Rr..XCH A,@Rr.XCHD A,@RrCPL C.....CPL F0....CPL F1....CLR C.....CLR F0....\
     CLR F1....ANL BUS,#dANL Pp,#d.ANLD Pp,A.IN A,Pp...INS A,BUS.MOVD A,Pp.MOVD Pp,A.ORL BUS,#dORLD Pp,A.\
     ORL Pp,#d.OUTL BUS,AOUTL Pp,A.DEC Rr....INC Rr....INC @Rr...CALL a....RET.......RETR......EN TCNTI..\
-    DIS TCNTI.MOV A,T...MOV T,A...STOP TCNT.STRT CNT..STRT T....NOP.......";
+    DIS TCNTI.MOV A,T...MOV T,A...STOP TCNT.STRT CNT..STRT T....NOP.......HALT......STOP......";
 
 fn letter_at(kind: u8, i: usize) -> u8
-    requires { ⌜ (kind < 97) × (i < 10) ⌝ }
+    requires { ⌜ (kind < 99) × (i < 10) ⌝ }
     ensures { λ r. ⌜ r ≡ getD (lettersOf kind) i 46 ⌝ }
 {
     let at = (kind as usize) * 10 + i;
@@ -119,7 +121,7 @@ fn letter_at(kind: u8, i: usize) -> u8
 }
 
 fn put_text(l: Draft, kind: u8, a: u16, code: u8, d: u8) -> Draft
-    requires { ⌜ (kind < 97) × (a < 4096) ⌝ }
+    requires { ⌜ (kind < 99) × (a < 4096) ⌝ }
     ensures { λ x. ⌜ Adds l (expandAll a code d (lettersOf kind)) x ⌝ }
 {
     let mut out = l;
@@ -153,7 +155,7 @@ fn put_start(a: u16) -> Draft
 }
 
 fn put_end(l: Draft, kind: u8, a: u16, code: u8, d: u8) -> Draft
-    requires { ⌜ (kind < 97) × (a < 4096) ⌝ }
+    requires { ⌜ (kind < 99) × (a < 4096) ⌝ }
     ensures { λ r. ⌜ Adds l (ending kind a code d) r ⌝ }
 {
     push(put_text(put_spaces(l), kind, a, code, d), b'\n')
@@ -161,7 +163,7 @@ fn put_end(l: Draft, kind: u8, a: u16, code: u8, d: u8) -> Draft
 
 // The line of a single byte, which a DB shows as its data.
 fn line_one(kind: u8, a: u16, code: u8) -> Draft
-    requires { ⌜ (kind < 97) × (a < 4096) ⌝ }
+    requires { ⌜ (kind < 99) × (a < 4096) ⌝ }
     ensures { λ r. ⌜ textIn r ≡ cut (lineOne kind a code) ⌝ }
 {
     let l = put_hex2(put_start(a), code);
@@ -169,7 +171,7 @@ fn line_one(kind: u8, a: u16, code: u8) -> Draft
 }
 
 fn line_two(kind: u8, a: u16, code: u8, d: u8) -> Draft
-    requires { ⌜ (kind < 97) × (a < 4096) ⌝ }
+    requires { ⌜ (kind < 99) × (a < 4096) ⌝ }
     ensures { λ r. ⌜ textIn r ≡ cut (lineTwo kind a code d) ⌝ }
 {
     let l = put_hex2(put_start(a), code);
@@ -204,13 +206,13 @@ pub struct Ready {
     pub size: u8,
 }
 
-fn show(program: &[u8], a: u16) -> Ready
+fn show(set: Set, program: &[u8], a: u16) -> Ready
     requires { ⌜ (length (now program) ≤ 4096) × (a < length (now program)) ⌝ }
-    ensures { λ r. ⌜ (textIn (r .draft) ≡ cut (lineAt (now (program .entry)) a)) × (r .size ≡ sizeAt (now (program .entry)) a) ⌝ }
+    ensures { λ r. ⌜ (textIn (r .draft) ≡ cut (lineAt (under set (now (program .entry))) a)) × (r .size ≡ sizeAt (under set (now (program .entry))) a) ⌝ }
 {
     let at = a as usize;
     let code = program[at];
-    let e = isa::table::entry_of(code);
+    let e = isa::table::entry_of(set, code);
     let bytes = e.bytes;
     let kind = e.kind;
     if bytes == 2 {
@@ -241,9 +243,9 @@ fn show(program: &[u8], a: u16) -> Ready
 }
 
 // One line of the listing of a program, at an address, into a buffer.
-pub fn line(program: &[u8], address: usize, buffer: &mut [u8]) -> Listed
-    ensures answer { λ r. ⌜ listedAs r ≡ listedOf (now (program .entry)) address (length (now (buffer .entry))) ⌝ }
-    ensures left { λ r. ⌜ now (buffer .exit) ≡ lineAfter (now (program .entry)) address (now (buffer .entry)) ⌝ }
+pub fn line(set: Set, program: &[u8], address: usize, buffer: &mut [u8]) -> Listed
+    ensures answer { λ r. ⌜ listedAs r ≡ listedOf (under set (now (program .entry))) address (length (now (buffer .entry))) ⌝ }
+    ensures left { λ r. ⌜ now (buffer .exit) ≡ lineAfter (under set (now (program .entry))) address (now (buffer .entry)) ⌝ }
 {
     if PROGRAM_LIMIT < program.len() {
         return Listed::Unlisted(Refusal::ProgramLength);
@@ -254,7 +256,7 @@ pub fn line(program: &[u8], address: usize, buffer: &mut [u8]) -> Listed
     if program.len() <= address {
         return Listed::Unlisted(Refusal::PastEnd);
     }
-    let r = show(program, address as u16);
+    let r = show(set, program, address as u16);
     let l = r.draft;
     let size = r.size;
     let n = copy_line(l, buffer);

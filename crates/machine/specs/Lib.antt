@@ -1,4 +1,5 @@
 pub mod Counting
+pub mod Mode
 pub mod Pins
 pub mod Psw
 pub mod State

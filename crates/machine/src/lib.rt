@@ -1,6 +1,8 @@
 // The machine state, what it may hold, and the counting of one machine cycle.
+use isa::Set;
 ghost use mathlib.Core.Path.{_≡_};
-ghost use Rattle.machine.specs.State.{powerUp, permitted, countOf, withCore, withFlags, withCount, withCounting, withInterrupts, withPorts, withA, withPc, withPsw};
+ghost use Rattle.machine.specs.Mode.{isRunning, modeAllowed};
+ghost use Rattle.machine.specs.State.{powerUp, permitted, countOf, withCore, withFlags, withCount, withCounting, withInterrupts, withPorts, withMode, runningAt, withA, withPc, withPsw};
 
 pub mod cycle; // one machine cycle
 pub mod pins; // the bits of a pin sample
@@ -10,6 +12,14 @@ pub enum Counting {
     Stopped,
     Timer,
     Counter,
+}
+
+// Whether the machine runs, is in the data sheet's HALT mode or STOP mode, or was just released from one by INT.
+pub enum Mode {
+    Running,
+    HaltMode,
+    StopMode,
+    Released,
 }
 
 // The interrupts enabled, the external one and TCNTI, the timer's, and whether one is in service.
@@ -29,6 +39,7 @@ pub struct Ports {
 
 // The machine state. Numbers and flags come first and what is nested last: the order matters for speed (docs/PERFORMANCE.md).
 pub struct State {
+    pub mode: Mode,
     pub a: u8,
     pub pc: u16,
     // bit 7 C, 6 AC, 5 F0, 4 bank BS, 3 always 1, 2 to 0 SP
@@ -55,6 +66,28 @@ pub struct Count {
     pub tf: bool,
     pub request: bool,
     pub last: bool,
+}
+
+// Whether the machine simply runs: it is in no standby mode, and was not just released from one.
+pub fn is_running(m: Mode) -> bool
+    ensures { λ r. ⌜ r ≡ isRunning m ⌝ }
+{
+    match m {
+        Mode::Running => true,
+        Mode::HaltMode => false,
+        Mode::StopMode => false,
+        Mode::Released => false,
+    }
+}
+
+// Whether a set has the mode.
+fn is_allowed(set: Set, m: Mode) -> bool
+    ensures { λ r. ⌜ r ≡ modeAllowed set m ⌝ }
+{
+    match set {
+        Set::Intel => is_running(m),
+        Set::Nec => true,
+    }
 }
 
 impl State {
@@ -86,6 +119,7 @@ impl State {
         ensures { λ r. ⌜ r ≡ powerUp ⌝ }
     {
         State {
+            mode: Mode::Running,
             a: 0,
             pc: Self::RESET_VECTOR,
             psw: 0x08,
@@ -112,24 +146,28 @@ impl State {
         }
     }
 
-    // Whether each part is within its size and PSW bit 3 is 1; if not, 3.
-    pub fn is_permitted(self) -> bool
-        ensures { λ r. ⌜ r ≡ permitted self ⌝ }
+    // Whether each part is within its size, PSW bit 3 is 1, and the set has the mode; if not, 3.
+    pub fn is_permitted(self, set: Set) -> bool
+        ensures { λ r. ⌜ r ≡ permitted set self ⌝ }
     {
+        let mode = self.mode;
         (self.pc < Self::PC_LIMIT)
             & ((self.divider as u16) < Self::DIVIDER_LIMIT)
             & (self.psw / 8 % 2 == 1)
+            & is_allowed(set, mode)
     }
 
-    // The changes of a state. Each of the first six builds it anew from all its parts, and the others call one of those: a part that is
+    // The changes of a state. Each of the first eight builds it anew from all its parts, and the others call one of those: a part that is
     // copied by itself stays apart in the machine code (docs/PERFORMANCE.md).
     pub fn with_core(self, a: u8, pc: u16, psw: u8) -> Self
         ensures { λ r. ⌜ r ≡ withCore self a pc psw ⌝ }
     {
+        let mode = self.mode;
         let counting = self.counting;
         let interrupts = self.interrupts;
         let ports = self.ports;
         State {
+            mode,
             a,
             pc,
             psw,
@@ -150,10 +188,12 @@ impl State {
     pub fn with_flags(self, f1: bool, dbf: bool, clock: bool) -> Self
         ensures { λ r. ⌜ r ≡ withFlags self f1 dbf clock ⌝ }
     {
+        let mode = self.mode;
         let counting = self.counting;
         let interrupts = self.interrupts;
         let ports = self.ports;
         State {
+            mode,
             a: self.a,
             pc: self.pc,
             psw: self.psw,
@@ -174,10 +214,12 @@ impl State {
     pub fn with_count(self, c: Count) -> Self
         ensures { λ r. ⌜ r ≡ withCount self c ⌝ }
     {
+        let mode = self.mode;
         let counting = self.counting;
         let interrupts = self.interrupts;
         let ports = self.ports;
         State {
+            mode,
             a: self.a,
             pc: self.pc,
             psw: self.psw,
@@ -198,9 +240,11 @@ impl State {
     pub fn with_counting(self, counting: Counting, divider: u8) -> Self
         ensures { λ r. ⌜ r ≡ withCounting self counting divider ⌝ }
     {
+        let mode = self.mode;
         let interrupts = self.interrupts;
         let ports = self.ports;
         State {
+            mode,
             a: self.a,
             pc: self.pc,
             psw: self.psw,
@@ -221,9 +265,11 @@ impl State {
     pub fn with_interrupts(self, interrupts: Interrupts) -> Self
         ensures { λ r. ⌜ r ≡ withInterrupts self interrupts ⌝ }
     {
+        let mode = self.mode;
         let counting = self.counting;
         let ports = self.ports;
         State {
+            mode,
             a: self.a,
             pc: self.pc,
             psw: self.psw,
@@ -244,11 +290,64 @@ impl State {
     pub fn with_ports(self, ports: Ports) -> Self
         ensures { λ r. ⌜ r ≡ withPorts self ports ⌝ }
     {
+        let mode = self.mode;
         let counting = self.counting;
         let interrupts = self.interrupts;
         State {
+            mode,
             a: self.a,
             pc: self.pc,
+            psw: self.psw,
+            counting,
+            t: self.t,
+            divider: self.divider,
+            tf: self.tf,
+            request: self.request,
+            last: self.last,
+            f1: self.f1,
+            dbf: self.dbf,
+            clock: self.clock,
+            interrupts,
+            ports,
+        }
+    }
+
+    pub fn with_mode(self, mode: Mode) -> Self
+        ensures { λ r. ⌜ r ≡ withMode self mode ⌝ }
+    {
+        let counting = self.counting;
+        let interrupts = self.interrupts;
+        let ports = self.ports;
+        State {
+            mode,
+            a: self.a,
+            pc: self.pc,
+            psw: self.psw,
+            counting,
+            t: self.t,
+            divider: self.divider,
+            tf: self.tf,
+            request: self.request,
+            last: self.last,
+            f1: self.f1,
+            dbf: self.dbf,
+            clock: self.clock,
+            interrupts,
+            ports,
+        }
+    }
+
+    // An instruction begins: PC is past it, and what a release held back is over.
+    pub fn running_at(self, next: u16) -> Self
+        ensures { λ r. ⌜ r ≡ runningAt self next ⌝ }
+    {
+        let counting = self.counting;
+        let interrupts = self.interrupts;
+        let ports = self.ports;
+        State {
+            mode: Mode::Running,
+            a: self.a,
+            pc: next,
             psw: self.psw,
             counting,
             t: self.t,

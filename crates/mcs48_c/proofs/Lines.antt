@@ -2,24 +2,23 @@
 -- Assumes nothing.
 use mathlib.Core.Path.{_≡_, sym, _∙_}
 use mathlib.Core.Bool.{Bool, true, false}
-use mathlib.Core.List.{List}
 use Prim.Native.Nat.{ℕ, _%_, _≤_, _<_}
 use native.Mathlib.Omega.{arith}
 use lib.Dec.{ltb}
 use lib.ListN.{length}
 use Rattle.isa.specs.Choice.{pick}
 use Rattle.isa.specs.Numbers.{given, refused}
-use Rattle.isa.specs.Reading.{lacks, byteAt}
+use Rattle.isa.specs.Reading.{Program, lacks, byteAt}
 use Rattle.listing.specs.Listing.{shown, lineAt, sizeAt, listedOf, listedAs}
 use Rattle.listing.specs.declared.Listed.{Listed}
 use Rattle.listing.specs.declared.Listed.the-variants.{Printed}
 use Rattle.listing.proofs.Short.{line-short}
 use Rattle.mcs48_c.specs.Packed.{packed, packedLine}
 
-module _ (program : List ℕ) (a room : ℕ) (small : byteAt program a < 256) where
+module _ (program : Program) (a room : ℕ) (small : byteAt (program .bytes) a < 256) where
   listed-short : (n size : ℕ) → listedOf program a room ≡ given (shown n size) → n ≤ 32
   unfolding listedOf pick
-  listed-short n size e = go (ltb 4096 (length program)) (ltb room 32) (lacks program a) e
+  listed-short n size e = go (ltb 4096 (length (program .bytes))) (ltb room 32) (lacks (program .bytes) a) e
     where
       go :
           (p q r : Bool)

@@ -10,6 +10,8 @@ use Rattle.isa.specs.Reading.{byteAt}
 use Rattle.machine.specs.State.{powerUp, withPc}
 use Rattle.machine.specs.declared.Counting.{Counting}
 use Rattle.machine.specs.declared.Counting.the-variants.{Stopped, Timer, Counter}
+use Rattle.machine.specs.declared.Mode.{Mode}
+use Rattle.machine.specs.declared.Mode.the-variants.{Running, HaltMode, StopMode, Released}
 use Rattle.machine.specs.declared.State.{State}
 
 -- A flag's byte is 0 or 1.
@@ -28,19 +30,30 @@ countingByte Counter = 2
 unfoldable pub countingOf : ℕ → Counting
 countingOf n = pick (eqb n 0) Stopped (pick (eqb n 1) Timer Counter)
 
+-- "Whether it runs, is halted, is stopped or was just released by INT" (document 02, item 2): 0, 1, 2, 3.
+abbrev pub modeByte : Mode → ℕ
+modeByte Running = 0
+modeByte HaltMode = 1
+modeByte StopMode = 2
+modeByte Released = 3
+
+unfoldable pub modeOf : ℕ → Mode
+modeOf n = pick (eqb n 0) Running (pick (eqb n 1) HaltMode (pick (eqb n 2) StopMode Released))
+
 -- The bytes of a state, 24 of them.
 unfoldable pub bytesOf : State → List ℕ
 bytesOf s =
     s .a ∷ s .pc % 256 ∷ s .pc / 256 ∷ s .psw ∷ oneIf (s .f1) ∷ oneIf (s .dbf) ∷ s .t ∷ s .divider ∷ countingByte (s .counting)
     ∷ oneIf (s .tf) ∷ oneIf (s .request) ∷ oneIf (s .interrupts .external) ∷ oneIf (s .interrupts .tcnti)
     ∷ oneIf (s .interrupts .service) ∷ oneIf (s .last) ∷ oneIf (s .clock) ∷ s .ports .p1 ∷ s .ports .p2 ∷ s .ports .bus
-    ∷ oneIf (s .ports .driven) ∷ 0 ∷ 0 ∷ 0 ∷ 0 ∷ []
+    ∷ oneIf (s .ports .driven) ∷ modeByte (s .mode) ∷ 0 ∷ 0 ∷ 0 ∷ []
 
--- 24 bytes are those of a state: flags are 0 or 1, the counting is 0, 1 or 2, and bytes 20 to 23 are 0.
+-- 24 bytes are those of a state: flags are 0 or 1, the counting is 0, 1 or 2, the mode is 0 to 3, and bytes 21 to 23 are 0. (Whether the set
+-- has that mode the chip looks at: any but 0 is 3 under Intel.)
 abbrev pub formed : List ℕ → Bool
 formed b =
     isFlag b 4 && isFlag b 5 && ltb (byteAt b 8) 3 && isFlag b 9 && isFlag b 10 && isFlag b 11 && isFlag b 12 && isFlag b 13 && isFlag b 14
-    && isFlag b 15 && isFlag b 19 && eqb (byteAt b 20) 0 && eqb (byteAt b 21) 0 && eqb (byteAt b 22) 0 && eqb (byteAt b 23) 0
+    && isFlag b 15 && isFlag b 19 && ltb (byteAt b 20) 4 && eqb (byteAt b 21) 0 && eqb (byteAt b 22) 0 && eqb (byteAt b 23) 0
 
 -- The state whose bytes they then are.
 abbrev pub stateIn : List ℕ → State
@@ -49,6 +62,7 @@ stateIn b =
       a = byteAt b 0;
       pc = byteAt b 1 + byteAt b 2 * 256;
       psw = byteAt b 3;
+      mode = modeOf (byteAt b 20);
       counting = countingOf (byteAt b 8);
       t = byteAt b 6;
       divider = byteAt b 7;

@@ -1,23 +1,52 @@
--- What the calls from C leave in the buffers that are lent to them.
+-- What the calls from C answer, and what they leave in the buffers that are lent to them. `name` is the number by which the caller names the
+-- set; where it names none the answer is 25, before everything else is looked at, and nothing is touched.
 -- Assumes nothing.
 use Prim.Native.Nat.{ℕ}
 use mathlib.Core.List.{List}
 use lib.Dec.{eqb, ltb}
 use lib.ListN.{length, set}
 use Rattle.isa.specs.Choice.{pick}
-use Rattle.chip.specs.Run.{Ended, runOf}
-use Rattle.chip.specs.Step.{stepOf}
+use Rattle.isa.specs.Numbers.{Answer, refused}
+use Rattle.isa.specs.Reading.{Sized, under, readOf}
+use Rattle.machine.specs.declared.State.{State}
+use Rattle.effects.specs.declared.Event.the-variants.{Quiet}
+use Rattle.chip.specs.Run.{Ended, begun, ended, runOf}
+use Rattle.chip.specs.Step.{stepOf, ramAfter}
 use Rattle.chip.specs.declared.Outcome.{Outcome}
 use Rattle.chip.specs.declared.Ran.{Ran}
+use Rattle.listing.specs.Listing.{Shown, listedOf, lineAfter}
 use Rattle.mcs48_c.specs.declared.Spent.{Spent}
 use Rattle.mcs48_c.specs.Bytes.{stateOf, holding}
+use Rattle.mcs48_c.specs.Naming.{setOf, byNamed}
 
--- A step and a run from the state that lent bytes stand for.
-abbrev pub stepFrom : List ℕ → List ℕ → List ℕ → ℕ → ℕ → Outcome
-stepFrom program ram bytes first second = stepOf program ram (stateOf bytes) first second
+-- "A refused step returns the number, the state it got, no event and 0 cycles", and used no sample.
+abbrev pub refusedStep : State → ℕ → Outcome
+refusedStep s number = record { number = number; state = s; event = Quiet; cycles = 0; used = 0 }
 
-abbrev pub runFrom : List ℕ → List ℕ → List ℕ → List ℕ → Ended
-runFrom program ram bytes samples = runOf program ram (stateOf bytes) samples
+-- A step from the state that lent bytes stand for, and the RAM that it leaves.
+abbrev pub stepFrom : ℕ → List ℕ → List ℕ → List ℕ → ℕ → ℕ → Outcome
+stepFrom name program ram bytes first second =
+    byNamed (setOf name) (λ set. stepOf (under set program) ram (stateOf bytes) first second) (refusedStep (stateOf bytes))
+
+abbrev pub ramFrom : ℕ → List ℕ → List ℕ → List ℕ → ℕ → ℕ → List ℕ
+ramFrom name program ram bytes first second =
+    byNamed (setOf name) (λ set. ramAfter (under set program) ram (stateOf bytes) first second) (λ number. ram)
+
+-- A run from that state: what it returns, the RAM that it leaves, and its events.
+abbrev pub runFrom : ℕ → List ℕ → List ℕ → List ℕ → List ℕ → Ended
+runFrom name program ram bytes samples =
+    byNamed (setOf name) (λ set. runOf (under set program) ram (stateOf bytes) samples) (ended (begun ram (stateOf bytes)))
+
+-- What is read at an address.
+abbrev pub readFrom : ℕ → List ℕ → ℕ → Answer Sized
+readFrom name program a = byNamed (setOf name) (λ set. readOf (under set program) a) refused
+
+-- A line of the listing, into a buffer of `room` bytes: what is answered, and what the buffer holds after it.
+abbrev pub listedFrom : ℕ → List ℕ → ℕ → ℕ → Answer Shown
+listedFrom name program a room = byNamed (setOf name) (λ set. listedOf (under set program) a room) refused
+
+abbrev pub lineFrom : ℕ → List ℕ → ℕ → List ℕ → List ℕ
+lineFrom name program a old = byNamed (setOf name) (λ set. lineAfter (under set program) a old) (λ number. old)
 
 -- What is left of a run's answer once its state is in the lent bytes.
 abbrev pub spent : Ran → Spent

@@ -1,4 +1,5 @@
 pub mod Bytes
 pub mod Calls
+pub mod Naming
 pub mod Packed
 pub mod Stepping

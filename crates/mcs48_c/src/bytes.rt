@@ -1,12 +1,13 @@
 // The machine state as 24 bytes.
 use machine::Counting;
 use machine::Interrupts;
+use machine::Mode;
 use machine::Ports;
 use machine::State;
 ghost use mathlib.Core.Path.{_≡_};
 ghost use Prim.Native.Nat.{_+_, _*_};
 ghost use lib.ListN.{length};
-ghost use Rattle.mcs48_c.specs.Bytes.{bytesOf, countingByte, countingOf, formed, holding, outside, stateIn, stateOf};
+ghost use Rattle.mcs48_c.specs.Bytes.{bytesOf, countingByte, countingOf, modeByte, modeOf, formed, holding, outside, stateIn, stateOf};
 
 fn word(low: u8, high: u8) -> u16
     ensures { λ r. ⌜ r ≡ low + high * 256 ⌝ }
@@ -36,10 +37,37 @@ fn counting_of(n: u8) -> Counting
     Counting::Counter
 }
 
+fn mode_byte(m: Mode) -> u8
+    ensures { λ r. ⌜ r ≡ modeByte m ⌝ }
+{
+    match m {
+        Mode::Running => 0,
+        Mode::HaltMode => 1,
+        Mode::StopMode => 2,
+        Mode::Released => 3,
+    }
+}
+
+fn mode_of(n: u8) -> Mode
+    ensures { λ r. ⌜ r ≡ modeOf n ⌝ }
+{
+    if n == 0 {
+        return Mode::Running;
+    }
+    if n == 1 {
+        return Mode::HaltMode;
+    }
+    if n == 2 {
+        return Mode::StopMode;
+    }
+    Mode::Released
+}
+
 fn bytes_of(s: State) -> [u8; 24]
     ensures { λ r. ⌜ r ≡ bytesOf s ⌝ }
 {
     let counting = s.counting;
+    let mode = s.mode;
     let i = s.interrupts;
     let p = s.ports;
     [
@@ -63,7 +91,7 @@ fn bytes_of(s: State) -> [u8; 24]
         p.p2,
         p.bus,
         p.driven as u8,
-        0,
+        mode_byte(mode),
         0,
         0,
         0,
@@ -86,7 +114,7 @@ fn is_formed(b: &[u8]) -> bool
         & (b[14] < 2)
         & (b[15] < 2)
         & (b[19] < 2)
-        & (b[20] == 0)
+        & (b[20] < 4)
         & (b[21] == 0)
         & (b[22] == 0)
         & (b[23] == 0)
@@ -121,6 +149,7 @@ fn state_in(b: &[u8]) -> State
         },
         pc: word(b[1], b[2]),
         counting: counting_of(b[8]),
+        mode: mode_of(b[20]),
     }
 }
 

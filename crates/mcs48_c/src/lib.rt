@@ -1,16 +1,16 @@
 // The C interface. include/mcs48.h documents each function for its users.
 use effects::Event;
 use isa::Refusal;
+use isa::Set;
 use listing::Listed;
 use machine::State;
 ghost use mathlib.Core.Path.{_≡_};
 ghost use lib.ListN.{length};
-ghost use Rattle.isa.specs.Reading.{byteAt, decodedAt, readOf};
+ghost use Rattle.isa.specs.Reading.{byteAt, decodedAt, under};
 ghost use Rattle.machine.specs.State.{powerUp};
-ghost use Rattle.chip.specs.Step.{ramAfter};
-ghost use Rattle.listing.specs.Listing.{lineAfter, listedOf};
-ghost use Rattle.mcs48_c.specs.Bytes.{holding, stateOf};
-ghost use Rattle.mcs48_c.specs.Calls.{afterRun, afterStep, runFrom, spent, stepFrom, totalled, totalsAfter};
+ghost use Rattle.mcs48_c.specs.Bytes.{holding};
+ghost use Rattle.mcs48_c.specs.Calls.{afterRun, afterStep, lineFrom, listedFrom, ramFrom, readFrom, runFrom, spent, stepFrom, totalled, totalsAfter};
+ghost use Rattle.mcs48_c.specs.Naming.{namedAs, setOf};
 ghost use Rattle.mcs48_c.specs.Packed.{packedLine, packedRead, packedStep};
 
 mod bytes; // the machine state as 24 bytes
@@ -24,12 +24,30 @@ pub extern "C" fn mcs48_power_up(state: &mut [u8])
     bytes::hold(state, State::power_up());
 }
 
-// The instruction whose first byte, at `pc`, is `code`.
-fn read_at(program: &[u8], pc: u16, code: u8) -> u64
-    requires { ⌜ code ≡ byteAt (now program) pc ⌝ }
-    ensures { λ r. ⌜ r ≡ packedRead (now (program .entry)) pc (decodedAt (now (program .entry)) pc code) ⌝ }
+// The set that a caller in C names, if there is such a set.
+pub enum Named {
+    Known(Set),
+    Unknown,
+}
+
+pub fn set_named(name: u32) -> Named
+    ensures { λ r. ⌜ namedAs r ≡ setOf name ⌝ }
 {
-    let e = isa::table::entry_of(code);
+    if name == 0 {
+        return Named::Known(Set::Intel);
+    }
+    if name == 1 {
+        return Named::Known(Set::Nec);
+    }
+    Named::Unknown
+}
+
+// The instruction whose first byte, at `pc`, is `code`.
+fn read_at(set: Set, program: &[u8], pc: u16, code: u8) -> u64
+    requires { ⌜ code ≡ byteAt (now program) pc ⌝ }
+    ensures { λ r. ⌜ r ≡ packedRead (now (program .entry)) pc (decodedAt (under set (now (program .entry))) pc code) ⌝ }
+{
+    let e = isa::table::entry_of(set, code);
     let bytes = e.bytes;
     if bytes == 0 {
         return packing::pack_refusal(Refusal::UndefinedCode);
@@ -47,25 +65,31 @@ fn read_at(program: &[u8], pc: u16, code: u8) -> u64
 // The instruction at an address: its length, and the bytes that the writer gives for it, which are those that stand there (`read-write`). A
 // call of the reader and the writer would say the same, but give the decoder a second caller (docs/PERFORMANCE.md).
 #[no_mangle]
-pub extern "C" fn mcs48_read(program: &[u8], address: usize) -> u64
-    ensures { λ r. ⌜ r ≡ packedRead (now (program .entry)) address (readOf (now (program .entry)) address) ⌝ }
+pub extern "C" fn mcs48_read(set: u32, program: &[u8], address: usize) -> u64
+    ensures { λ r. ⌜ r ≡ packedRead (now (program .entry)) address (readFrom set (now (program .entry)) address) ⌝ }
 {
+    let Named::Known(named) = set_named(set) else {
+        return packing::pack_refusal(Refusal::SetUnknown);
+    };
     if isa::PROGRAM_LIMIT < program.len() {
         return packing::pack_refusal(Refusal::ProgramLength);
     }
     if program.len() <= address {
         return packing::pack_refusal(Refusal::PastEnd);
     }
-    read_at(program, address as u16, program[address])
+    read_at(named, program, address as u16, program[address])
 }
 
 // One line of a listing, into a buffer.
 #[no_mangle]
-pub extern "C" fn mcs48_list_line(program: &[u8], address: usize, line: &mut [u8]) -> u64
-    ensures answer { λ r. ⌜ r ≡ packedLine (listedOf (now (program .entry)) address (length (now (line .entry)))) ⌝ }
-    ensures left { λ r. ⌜ now (line .exit) ≡ lineAfter (now (program .entry)) address (now (line .entry)) ⌝ }
+pub extern "C" fn mcs48_list_line(set: u32, program: &[u8], address: usize, line: &mut [u8]) -> u64
+    ensures answer { λ r. ⌜ r ≡ packedLine (listedFrom set (now (program .entry)) address (length (now (line .entry)))) ⌝ }
+    ensures left { λ r. ⌜ now (line .exit) ≡ lineFrom set (now (program .entry)) address (now (line .entry)) ⌝ }
 {
-    match listing::line(program, address, line) {
+    let Named::Known(named) = set_named(set) else {
+        return packing::pack_refusal(Refusal::SetUnknown);
+    };
+    match listing::line(named, program, address, line) {
         Listed::Printed(n, size) => packing::pack(0, (n % 256) as u8, 0, size, 0),
         Listed::Unlisted(r) => packing::pack_refusal(r),
     }
@@ -81,13 +105,21 @@ pub struct Spent {
 
 // A run over lent buffers. The only caller of the chip, and a step from C is a run over its two samples: so the whole step is in one place
 // in the machine code (docs/PERFORMANCE.md).
-fn run_lent(program: &[u8], ram: &mut [u8], state: &mut [u8], samples: &[u32]) -> Spent
-    ensures answer { λ r. ⌜ r ≡ spent (runFrom (now (program .entry)) (now (ram .entry)) (now (state .entry)) (now (samples .entry)) .ran) ⌝ }
-    ensures memory { λ r. ⌜ now (ram .exit) ≡ runFrom (now (program .entry)) (now (ram .entry)) (now (state .entry)) (now (samples .entry)) .ram ⌝ }
-    ensures left { λ r. ⌜ now (state .exit) ≡ afterRun (now (state .entry)) (runFrom (now (program .entry)) (now (ram .entry)) (now (state .entry)) (now (samples .entry)) .ran) ⌝ }
+fn run_lent(set: u32, program: &[u8], ram: &mut [u8], state: &mut [u8], samples: &[u32]) -> Spent
+    ensures answer { λ r. ⌜ r ≡ spent (runFrom set (now (program .entry)) (now (ram .entry)) (now (state .entry)) (now (samples .entry)) .ran) ⌝ }
+    ensures memory { λ r. ⌜ now (ram .exit) ≡ runFrom set (now (program .entry)) (now (ram .entry)) (now (state .entry)) (now (samples .entry)) .ram ⌝ }
+    ensures left { λ r. ⌜ now (state .exit) ≡ afterRun (now (state .entry)) (runFrom set (now (program .entry)) (now (ram .entry)) (now (state .entry)) (now (samples .entry)) .ran) ⌝ }
 {
+    let Named::Known(named) = set_named(set) else {
+        return Spent {
+            number: isa::number(Refusal::SetUnknown),
+            used: 0,
+            cycles: 0,
+            event: Event::Quiet,
+        };
+    };
     let start = bytes::state_of(&state[..]);
-    let r = chip::run(program, ram, start, samples);
+    let r = chip::run(named, program, ram, start, samples);
     let event = r.event;
     if r.used != 0 {
         bytes::hold(state, r.state);
@@ -113,18 +145,19 @@ fn total(totals: &mut [u64], used: usize, cycles: u64)
 // A run over samples.
 #[no_mangle]
 pub extern "C" fn mcs48_run(
+    set: u32,
     program: &[u8],
     ram: &mut [u8],
     state: &mut [u8],
     samples: &[u32],
     totals: &mut [u64],
 ) -> u64
-    ensures answer { λ r. ⌜ r ≡ runFrom (now (program .entry)) (now (ram .entry)) (now (state .entry)) (now (samples .entry)) .ran .number ⌝ }
-    ensures memory { λ r. ⌜ now (ram .exit) ≡ runFrom (now (program .entry)) (now (ram .entry)) (now (state .entry)) (now (samples .entry)) .ram ⌝ }
-    ensures left { λ r. ⌜ now (state .exit) ≡ afterRun (now (state .entry)) (runFrom (now (program .entry)) (now (ram .entry)) (now (state .entry)) (now (samples .entry)) .ran) ⌝ }
-    ensures sums { λ r. ⌜ now (totals .exit) ≡ totalsAfter (now (totals .entry)) (runFrom (now (program .entry)) (now (ram .entry)) (now (state .entry)) (now (samples .entry)) .ran) ⌝ }
+    ensures answer { λ r. ⌜ r ≡ runFrom set (now (program .entry)) (now (ram .entry)) (now (state .entry)) (now (samples .entry)) .ran .number ⌝ }
+    ensures memory { λ r. ⌜ now (ram .exit) ≡ runFrom set (now (program .entry)) (now (ram .entry)) (now (state .entry)) (now (samples .entry)) .ram ⌝ }
+    ensures left { λ r. ⌜ now (state .exit) ≡ afterRun (now (state .entry)) (runFrom set (now (program .entry)) (now (ram .entry)) (now (state .entry)) (now (samples .entry)) .ran) ⌝ }
+    ensures sums { λ r. ⌜ now (totals .exit) ≡ totalsAfter (now (totals .entry)) (runFrom set (now (program .entry)) (now (ram .entry)) (now (state .entry)) (now (samples .entry)) .ran) ⌝ }
 {
-    let r = run_lent(program, ram, state, samples);
+    let r = run_lent(set, program, ram, state, samples);
     total(totals, r.used, r.cycles);
     r.number as u64
 }
@@ -132,18 +165,21 @@ pub extern "C" fn mcs48_run(
 // One step, as a run over its two samples.
 #[no_mangle]
 pub extern "C" fn mcs48_step(
+    set: u32,
     program: &[u8],
     ram: &mut [u8],
     state: &mut [u8],
     first: u32,
     second: u32,
 ) -> u64
-    ensures answer { λ r. ⌜ r ≡ packedStep (stepFrom (now (program .entry)) (now (ram .entry)) (now (state .entry)) first second) ⌝ }
-    ensures memory { λ r. ⌜ now (ram .exit) ≡ ramAfter (now (program .entry)) (now (ram .entry)) (stateOf (now (state .entry))) first second ⌝ }
-    ensures left { λ r. ⌜ now (state .exit) ≡ afterStep (now (state .entry)) (stepFrom (now (program .entry)) (now (ram .entry)) (now (state .entry)) first second) ⌝ }
+    ensures answer { λ r. ⌜ r ≡ packedStep (stepFrom set (now (program .entry)) (now (ram .entry)) (now (state .entry)) first second) ⌝ }
+    ensures memory { λ r. ⌜ now (ram .exit) ≡ ramFrom set (now (program .entry)) (now (ram .entry)) (now (state .entry)) first second ⌝ }
+    ensures left { λ r. ⌜ now (state .exit) ≡ afterStep (now (state .entry)) (stepFrom set (now (program .entry)) (now (ram .entry)) (now (state .entry)) first second) ⌝ }
 {
     let samples = [first, second];
-    let r = run_lent(program, ram, state, &samples);
+    let r = run_lent(set, program, ram, state, &samples);
     let event = r.event;
-    packing::pack_step(r.number, (r.cycles % 256) as u8, event)
+    let cycles = (r.cycles % 256) as u8;
+    let used = (r.used % 256) as u8;
+    packing::pack_step(r.number, cycles, used, event)
 }

@@ -1,4 +1,5 @@
--- An instruction that is read at an address and written again: its bytes are those that stand there, by `read-write` of crate writer.
+-- An instruction that is read at an address and written again in the same set: its bytes are those that stand there, by `read-write` of
+-- crate writer.
 -- Assumes nothing.
 use mathlib.Core.Path.{_≡_, sym, _∙_, subst}
 use mathlib.Core.List.{List, [], _∷_}
@@ -6,11 +7,12 @@ use Prim.Native.Nat.{ℕ, zero, suc, _<_}
 use native.Mathlib.Omega.{arith}
 use Rattle.isa.specs.Choice.{pick}
 use Rattle.isa.specs.Numbers.{numberOf, Answer, given, refused}
-use Rattle.isa.specs.Reading.{sized, readOf, readAs, Bytes}
+use Rattle.isa.specs.Reading.{under, sized, readOf, readAs, Bytes}
 use Rattle.isa.specs.declared.Decoded.{Decoded}
 use Rattle.isa.specs.declared.Decoded.the-variants.{Found}
 use Rattle.isa.specs.declared.Instruction.{Instruction}
 use Rattle.isa.specs.declared.Refusal.{Refusal}
+use Rattle.isa.specs.declared.Set.{Set}
 use Rattle.writer.specs.Standing.{BytesIn, Stands}
 use Rattle.writer.specs.Writing.{Writes, encodedAs}
 use Rattle.writer.specs.declared.Encoded.{Encoded}
@@ -27,21 +29,21 @@ two-bytes h k zero = h
 two-bytes h k (suc zero) = k
 two-bytes h k (suc (suc j)) = omega arith
 
-module _ (program : List ℕ) (a : ℕ) {r : Decoded} {i : Instruction} {n : ℕ} (v : Encoded) (small : Bytes program)
-    (read : readAs r ≡ readOf program a) (found : r ≡ Found i n) (writes : Writes i (encodedAs v)) where
-  reads : readOf program a ≡ given (sized i n)
+module _ (set : Set) (bytes : List ℕ) (a : ℕ) {r : Decoded} {i : Instruction} {n : ℕ} (v : Encoded) (small : Bytes bytes)
+    (read : readAs r ≡ readOf (under set bytes) a) (found : r ≡ Found i n) (writes : Writes set i (encodedAs v)) where
+  reads : readOf (under set bytes) a ≡ given (sized i n)
   reads = sym read ∙ rw found
 
-  stands : (answer : Answer (List ℕ)) → encodedAs v ≡ answer → BytesIn answer → Stands program a n answer
-  stands answer e b = read-write program a i n answer small b reads (subst (Writes i) e writes)
+  stands : (answer : Answer (List ℕ)) → encodedAs v ≡ answer → BytesIn answer → Stands bytes a n answer
+  stands answer e b = read-write (under set bytes) a i n answer small b reads (subst (Writes set i) e writes)
 
-  pub one-again : {b : ℕ} → b < 256 → v ≡ One b → packed 0 n b 0 0 ≡ packedRead program a (readOf program a)
+  pub one-again : {b : ℕ} → b < 256 → v ≡ One b → packed 0 n b 0 0 ≡ packedRead bytes a (readOf (under set bytes) a)
   unfolding pick
   one-again {b} h w =
       let s = stands (given (b ∷ [])) (rw w) (one-byte h) in
       rw (reads, ← (s .0), s .1 .1)
 
-  pub two-again : {b d : ℕ} → b < 256 → d < 256 → v ≡ Two b d → packed 0 n b d 0 ≡ packedRead program a (readOf program a)
+  pub two-again : {b d : ℕ} → b < 256 → d < 256 → v ≡ Two b d → packed 0 n b d 0 ≡ packedRead bytes a (readOf (under set bytes) a)
   unfolding pick
   two-again {b} {d} h k w =
       let s = stands (given (b ∷ d ∷ [])) (rw w) (two-bytes h k) in

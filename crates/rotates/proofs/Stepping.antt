@@ -1,23 +1,30 @@
--- Document 02, item 6, of the chip.
+-- Document 02, item 6, of the chip: a step that comes to fetch and finds a rotate does what the string says of it, counts one cycle and leaves
+-- all else; so by induction do the steps over a string.
 -- Assumes nothing.
-use Prim.Native.Nat.{ℕ, _+_, _%_, _<_}
+use Prim.Native.Nat.{ℕ, zero, suc, _+_, _%_, _<_, _≤_}
 use mathlib.Core.Bool.{Bool, false, or-false}
 use mathlib.Core.List.{List, [], _∷_, map, append-assoc, append-nil}
+use mathlib.Core.Logic.{_⊎_, inl, inr}
 use mathlib.Core.Path.{_≡_, refl, sym, ap, _∙_, subst}
-use native.Mathlib.Nat.{add-assoc, add-zero, zero-add}
+use native.Mathlib.Nat.{add-zero, zero-add}
 use native.Mathlib.Omega.{arith}
 use lib.Dec.{ltb}
 use lib.ListN.{length}
 use borrow.Author.Tests.{le-ltb}
 use Rattle.isa.specs.Choice.{pick}
 use Rattle.isa.specs.Numbers.{given}
-use Rattle.isa.specs.Reading.{sized, nextPc, lacks, byteAt, instructionAt, decodedAt}
+use Rattle.isa.specs.Reading.{Program, under, sized, nextPc, lacks, byteAt, instructionAt}
 use Rattle.isa.specs.Sheet.{kindOf, entryOf, instructionOf}
+use Rattle.isa.specs.declared.Set.{Set}
+use Rattle.isa.specs.declared.Set.the-variants.{Intel}
+use Rattle.isa.proofs.Sets.{shared}
 use Rattle.machine.specs.Counting.{counted}
 use Rattle.machine.specs.Pins.{t1Pin, isHigh}
-use Rattle.machine.specs.State.{countOf, withPc, withCount}
+use Rattle.machine.specs.State.{countOf, runningAt}
 use Rattle.machine.specs.declared.Count.{Count}
 use Rattle.machine.specs.declared.Counting.the-variants.{Stopped}
+use Rattle.machine.specs.declared.Mode.{Mode}
+use Rattle.machine.specs.declared.Mode.the-variants.{Running}
 use Rattle.machine.specs.declared.State.{State}
 use Rattle.writer.specs.Standing.{StandsAt}
 use Rattle.accumulator.specs.Rotates.{Rotate, Rl, Rlc, Rr, Rrc, Swap, Nop, codeOf, turned, rotated, Law, Holds}
@@ -30,68 +37,75 @@ use Rattle.chip.specs.History.{Steps, more}
 use Rattle.chip.specs.Refusals.{Fetches}
 use Rattle.chip.specs.Run.{Progress, begun, gone}
 use Rattle.chip.specs.Step.{Plan, accepted, done, carried, course, remembered, ticked, settled, planBy, planOf}
-use Rattle.rotates.specs.Strings.{Fetching, none, step, levels, countedOver, over, Replaced}
+use Rattle.chip.proofs.Fetches.{reads-one}
+use Rattle.rotates.specs.Strings.{Fetching, none, step, levels, modePast, moved, countedOver, over, Replaced}
 
 -- ---- one step
--- The instruction whose one byte is b.
-read-one :
-    (program : List ℕ) (a b : ℕ) → lacks program a ≡ false → byteAt program a ≡ b → entryOf b .bytes ≡ 1
-    → instructionAt program a ≡ given (sized (instructionOf b 0) 1)
-unfolding instructionAt decodedAt pick
-read-one program a b l e n = rw (l, e, n)
-
-module _ (program ram : List ℕ) (s : State) (first second : ℕ) (f : Fetches program ram s first second) where
-  comes-to :
-      (b : ℕ) → byteAt program (s .pc) ≡ b → instructionAt program (s .pc) ≡ given (sized (instructionOf b 0) 1)
-      → course program ram s first second
-      ≡ done (executed (instructionOf b 0) program ram (withPc s (nextPc (s .pc))) (s .pc) first second) (entryOf b .cycles) s
-  unfolding course carried pick
-  comes-to b e i = rw (f .admitted, f .running, f .no-external, f .no-timer, i, e)
-
--- What the step over a rotate does: A and C as the string says, the next PC, and one cycle counted.
+-- What the step over a rotate does: A and C as the string says, the next PC, the machine runs, and one cycle is counted.
 abbrev pub turnedStep : Rotate → State → ℕ → Plan
 turnedStep r s first =
     record {
       number = 0;
-      state =
-          withCount (withPc (turned r s) (nextPc (s .pc))) (counted (s .counting) (countOf s) (isHigh t1Pin first) (s .interrupts .tcnti));
+      state = moved (turned r s) (nextPc (s .pc)) Running (counted (s .counting) (countOf s) (isHigh t1Pin first) (s .interrupts .tcnti));
       event = Quiet;
       write = Nothing;
-      cycles = entryOf (codeOf r) .cycles;
+      cycles = 1;
+      used = 1;
     }
 
--- By the step's definitions the instruction that the sheet has for its code does what the string says, and goes by A and C alone and changes
--- nothing else.
+-- Both sets have the same entry for its code. By the step's definitions the instruction that the sheet has there does what the string says, and
+-- goes by A and C alone and changes nothing else.
 pub record Meant (r : Rotate) : Type 0 where
+  pub either : (set : Set) → entryOf set (codeOf r) ≡ entryOf Intel (codeOf r)
   pub does :
-      (program ram : List ℕ) (s : State) (base first second : ℕ)
-      → executed (instructionOf (codeOf r) 0) program ram s base first second ≡ quiet (turned r s)
-  pub apart : (s : State) (pc : ℕ) (c : Count) → turned r (withCount (withPc s pc) c) ≡ withCount (withPc (turned r s) pc) c
+      (bytes ram : List ℕ) (s : State) (base first second : ℕ)
+      → executed (instructionOf Intel (codeOf r) 0) bytes ram s base first second ≡ quiet (turned r s)
+  pub apart : (s : State) (pc : ℕ) (m : Mode) (c : Count) → turned r (moved s pc m c) ≡ moved (turned r s) pc m c
   pub counting : (s : State) → turned r s .counting ≡ s .counting
   pub interrupts : (s : State) → turned r s .interrupts ≡ s .interrupts
 
 pub meant : (r : Rotate) → Meant r
 unfolding executed entryOf kindOf pick
-meant Rl = record { does = λ p m s b f g. refl; apart = λ s pc c. refl; counting = λ s. refl; interrupts = λ s. refl }
-meant Rlc = record { does = λ p m s b f g. refl; apart = λ s pc c. refl; counting = λ s. refl; interrupts = λ s. refl }
-meant Rr = record { does = λ p m s b f g. refl; apart = λ s pc c. refl; counting = λ s. refl; interrupts = λ s. refl }
-meant Rrc = record { does = λ p m s b f g. refl; apart = λ s pc c. refl; counting = λ s. refl; interrupts = λ s. refl }
-meant Swap = record { does = λ p m s b f g. refl; apart = λ s pc c. refl; counting = λ s. refl; interrupts = λ s. refl }
-meant Nop = record { does = λ p m s b f g. refl; apart = λ s pc c. refl; counting = λ s. refl; interrupts = λ s. refl }
+meant Rl =
+    record { either = λ set. shared set 0xE7 refl; does = λ p m s b f g. refl; apart = λ s pc m c. refl; counting = λ s. refl; interrupts = λ s. refl }
+meant Rlc =
+    record { either = λ set. shared set 0xF7 refl; does = λ p m s b f g. refl; apart = λ s pc m c. refl; counting = λ s. refl; interrupts = λ s. refl }
+meant Rr =
+    record { either = λ set. shared set 0x77 refl; does = λ p m s b f g. refl; apart = λ s pc m c. refl; counting = λ s. refl; interrupts = λ s. refl }
+meant Rrc =
+    record { either = λ set. shared set 0x67 refl; does = λ p m s b f g. refl; apart = λ s pc m c. refl; counting = λ s. refl; interrupts = λ s. refl }
+meant Swap =
+    record { either = λ set. shared set 0x47 refl; does = λ p m s b f g. refl; apart = λ s pc m c. refl; counting = λ s. refl; interrupts = λ s. refl }
+meant Nop =
+    record { either = λ set. shared set 0x00 refl; does = λ p m s b f g. refl; apart = λ s pc m c. refl; counting = λ s. refl; interrupts = λ s. refl }
 
-pub step-over :
-    (program ram : List ℕ) (s : State) (first second : ℕ) (r : Rotate) → Fetches program ram s first second
-    → lacks program (s .pc) ≡ false → byteAt program (s .pc) ≡ codeOf r
-    → planOf program ram s first second ≡ turnedStep r s first
-unfolding planBy done accepted settled ticked pick
-step-over program ram s first second r f l e =
-    let i = read-one program (s .pc) (codeOf r) l e (one-each r .0) in
-    rw (comes-to program ram s first second f (codeOf r) e i, meant r .does, one-each r .1, meant r .apart s (nextPc (s .pc)) (countOf s), meant r .counting s, meant r .interrupts s)
+module _ (program : Program) (ram : List ℕ) (s : State) (first second : ℕ) (r : Rotate) (f : Fetches program ram s first second)
+    (l : lacks (program .bytes) (s .pc) ≡ false) (e : byteAt (program .bytes) (s .pc) ≡ codeOf r) where
+  reads : instructionAt program (s .pc) ≡ given (sized (instructionOf Intel (codeOf r) 0) 1)
+  reads = reads-one program (s .pc) (codeOf r) _ l e (λ set. (one-each set r .0, rw (meant r .either set)))
+
+  comes-to :
+      course program ram s first second
+      ≡ done (executed (instructionOf Intel (codeOf r) 0) (program .bytes) ram (runningAt s (nextPc (s .pc))) (s .pc) first second) 1 s
+  unfolding course carried pick
+  comes-to = rw (f .admitted, f .no-reset, f .no-wait, f .no-external, f .no-timer, reads, e, one-each (program .set) r .1)
+
+  pub step-over : planOf program ram s first second ≡ turnedStep r s first
+  unfolding planBy done accepted settled ticked pick
+  step-over =
+      rw (comes-to, meant r .does, meant r .apart s (nextPc (s .pc)) Running (countOf s), meant r .counting s, meant r .interrupts s)
 
 -- ---- the steps over a string
-rotated-apart : (rs : List Rotate) (s : State) (pc : ℕ) (c : Count) → rotated rs (withCount (withPc s pc) c) ≡ withCount (withPc (rotated rs s) pc) c
-rotated-apart [] s pc c = refl
-rotated-apart (r ∷ rs) s pc c = ap (rotated rs) (meant r .apart s pc c) ∙ rotated-apart rs (turned r s) pc c
+rotated-apart : (rs : List Rotate) (s : State) (pc : ℕ) (m : Mode) (c : Count) → rotated rs (moved s pc m c) ≡ moved (rotated rs s) pc m c
+rotated-apart [] s pc m c = refl
+rotated-apart (r ∷ rs) s pc m c = ap (rotated rs) (meant r .apart s pc m c) ∙ rotated-apart rs (turned r s) pc m c
+
+past-running : (n : ℕ) → modePast n Running ≡ Running
+past-running zero = refl
+past-running (suc n) = refl
+
+one-more : (i n : ℕ) → i + 1 + n ≡ i + suc n
+one-more i n = omega arith
 
 over-none : (k : Progress) → k ≡ over [] k []
 over-none k = simp (add-zero, append-nil)
@@ -101,26 +115,26 @@ over-more :
     → over rs (gone k (turnedStep r (k .state) first)) rest ≡ over (r ∷ rs) k (isHigh t1Pin first ∷ rest)
 unfolding written
 over-more r rs k first rest =
-    rw (rotated-apart rs (turned r (k .state)) (nextPc (k .state .pc)) (counted (k .state .counting) (countOf (k .state)) (isHigh t1Pin first) (k .state .interrupts .tcnti)), meant r .counting (k .state), meant r .interrupts (k .state), add-assoc (k .used) _ _, add-assoc (k .cycles) _ _, append-assoc)
+    rw (rotated-apart rs (turned r (k .state)) (nextPc (k .state .pc)) Running (counted (k .state .counting) (countOf (k .state)) (isHigh t1Pin first) (k .state .interrupts .tcnti)), meant r .counting (k .state), meant r .interrupts (k .state), past-running (length rs), one-more (k .used) (length rs), one-more (k .cycles) (length rs), append-assoc)
 
 -- The steps over a string lead where `over` says: all of it.
 pub string-steps :
-    {program : List ℕ} (rs : List Rotate) {k m : Progress} → StandsAt program (k .state .pc) (map codeOf rs)
+    {program : Program} (rs : List Rotate) {k m : Progress} → StandsAt (program .bytes) (k .state .pc) (map codeOf rs)
     → (g : Fetching program k (length rs) m) → m ≡ over rs k (levels g)
 string-steps [] {k} w none = over-none k
 string-steps {program} (r ∷ rs) {k} w (step first second f g) =
     let one = step-over program (k .ram) (k .state) first second r f (w .0) (w .1) in
-    string-steps rs (subst (λ (p : Plan). StandsAt program (p .state .pc) (map codeOf rs)) (sym one) (w .2)) g
+    string-steps rs (subst (λ (p : Plan). StandsAt (program .bytes) (p .state .pc) (map codeOf rs)) (sym one) (w .2)) g
     ∙ ap (λ (p : Plan). over rs (gone k p) (levels g)) one ∙ over-more r rs k first (levels g)
 
 -- None of them is refused: they go on a history of accepted steps, so a run goes through them (chip's `over-through`).
 pub string-accepted :
-    {program ram : List ℕ} {s : State} (rs : List Rotate) {k m : Progress} → StandsAt program (k .state .pc) (map codeOf rs)
+    {program : Program} {ram : List ℕ} {s : State} (rs : List Rotate) {k m : Progress} → StandsAt (program .bytes) (k .state .pc) (map codeOf rs)
     → Fetching program k (length rs) m → Steps program ram s k → Steps program ram s m
 string-accepted [] w none h = h
 string-accepted {program} (r ∷ rs) {k} w (step first second f g) h =
     let one = step-over program (k .ram) (k .state) first second r f (w .0) (w .1) in
-    string-accepted rs (subst (λ (p : Plan). StandsAt program (p .state .pc) (map codeOf rs)) (sym one) (w .2)) g
+    string-accepted rs (subst (λ (p : Plan). StandsAt (program .bytes) (p .state .pc) (map codeOf rs)) (sym one) (w .2)) g
     (more first second h (ap (λ (p : Plan). p .number) one))
 
 -- ---- a counter that stands still
@@ -147,12 +161,20 @@ over-standing rs k m t1 e still l = rw (e, still) (stands-over (countOf (k .stat
 over-same :
     (string instead : List Rotate) (k : Progress) (t1 instead-t1 : List Bool) → rotated string (k .state) ≡ rotated instead (k .state)
     → length string ≡ length instead → t1 ≡ instead-t1 → over string k t1 ≡ over instead k instead-t1
-over-same string instead k t1 instead-t1 e n t = rw (cycles-bytes string, cycles-bytes instead, e, n, t)
+over-same string instead k t1 instead-t1 e n t = rw (e, n, t)
+
+same-mode : (i j : ℕ) (m : Mode) → (m ≡ Running) ⊎ ((1 ≤ i) × (1 ≤ j)) → modePast i m ≡ modePast j m
+same-mode zero zero m h = refl
+same-mode zero (suc j) m (inl e) = e
+same-mode zero (suc j) m (inr h) = absurd (omega (arith, h .0))
+same-mode (suc i) zero m (inl e) = sym e
+same-mode (suc i) zero m (inr h) = absurd (omega (arith, h .1))
+same-mode (suc i) (suc j) m h = refl
 
 module _
-    {l : Law} (holds : Holds l) {program patched ram : List ℕ} {s : State} {x y : Progress} (a-byte : s .a < 256) (psw-byte : s .psw < 256)
-    (stands : StandsAt program (s .pc) (map codeOf (l .string))) (instead-stands : StandsAt patched (s .pc) (map codeOf (l .instead)))
-    (g : Fetching program (begun ram s) (length (l .string)) x) (h : Fetching patched (begun ram s) (length (l .instead)) y) where
+    {l : Law} (holds : Holds l) {program : Program} {patched ram : List ℕ} {s : State} {x y : Progress} (a-byte : s .a < 256) (psw-byte : s .psw < 256)
+    (stands : StandsAt (program .bytes) (s .pc) (map codeOf (l .string))) (instead-stands : StandsAt patched (s .pc) (map codeOf (l .instead)))
+    (g : Fetching program (begun ram s) (length (l .string)) x) (h : Fetching (under (program .set) patched) (begun ram s) (length (l .instead)) y) where
   pub replaced : Replaced l ram s x y (levels g) (levels h)
   replaced =
       let p = string-steps (l .string) stands g in
@@ -163,9 +185,10 @@ module _
         instead-leaves = q;
         a = rw (p, q, e);
         c = rw (p, q, e);
-        cycles = rw (p, zero-add) (holds .cycles);
-        instead-cycles = rw (q, zero-add) (holds .instead-cycles);
+        cycles = rw (p, zero-add) (sym (cycles-bytes (program .set) (l .string)) ∙ holds .cycles (program .set));
+        instead-cycles = rw (q, zero-add) (sym (cycles-bytes (program .set) (l .instead)) ∙ holds .instead-cycles (program .set));
         state = rw (p, q, e);
+        mode = λ h. rw (p, q) (same-mode (length (l .string)) (length (l .instead)) (s .mode) h);
         memory = rw (p, q);
       }
 
@@ -175,11 +198,11 @@ module _
       replaced .leaves ∙ over-same (l .string) (l .instead) (begun ram s) (levels g) (levels h) (holds .same s a-byte psw-byte) n t
       ∙ sym (replaced .instead-leaves)
 
-  -- Where the counter stands still, nothing differs but PC and T1's level.
+  -- Where the counter stands still, nothing differs but PC, T1's level, and the mode as `mode` says.
   pub replaced-standing :
       s .counting ≡ Stopped → s .t < 256
-      → y .state ≡ withCount (withPc (x .state) (y .state .pc)) (remembered (countOf (x .state)) (y .state .last))
+      → y .state ≡ moved (x .state) (y .state .pc) (y .state .mode) (remembered (countOf (x .state)) (y .state .last))
   replaced-standing still small =
       let p = over-standing (l .string) (begun ram s) x (levels g) (replaced .leaves) still small in
       let q = over-standing (l .instead) (begun ram s) y (levels h) (replaced .instead-leaves) still small in
-      replaced .state ∙ ap (withCount (withPc (x .state) (y .state .pc))) (q ∙ ap (λ (c : Count). remembered c (y .state .last)) (sym p))
+      replaced .state ∙ ap (moved (x .state) (y .state .pc) (y .state .mode)) (q ∙ ap (λ (c : Count). remembered c (y .state .last)) (sym p))

@@ -2,6 +2,7 @@
 -- Assumes nothing.
 use Prim.Native.Nat.{ℕ, zero, suc}
 use mathlib.Core.List.{List, [], _∷_}
+use Rattle.isa.specs.Reading.{Program}
 use Rattle.machine.specs.State.{powerUp, withCore}
 use Rattle.machine.specs.declared.State.{State}
 use Rattle.chip.specs.Cases.{Case, holding, blank, idle, times, a, pc, number}
@@ -40,9 +41,9 @@ runs =
     []
 
 -- After n steps.
-abbrev pub stepped : List ℕ → ℕ → Progress → Progress
+abbrev pub stepped : Program → ℕ → Progress → Progress
 stepped program zero k = k
 stepped program (suc n) k = stepped program n (after program k idle idle)
 
-abbrev pub reached : List ℕ → ℕ → Progress
+abbrev pub reached : Program → ℕ → Progress
 reached program n = stepped program n (begun blank start)

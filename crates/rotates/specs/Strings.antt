@@ -1,26 +1,29 @@
 -- Document 02, item 6, of the chip: the steps over a string of rotates that stands in a program.
 -- Assumes nothing.
-use Prim.Native.Nat.{ℕ, zero, suc, _+_}
+use Prim.Native.Nat.{ℕ, zero, suc, _+_, _≤_}
 use mathlib.Core.Bool.{Bool}
 use mathlib.Core.List.{List, [], _∷_, _++_, map}
+use mathlib.Core.Logic.{_⊎_}
 use mathlib.Core.Path.{_≡_}
 use lib.ListN.{length, replicate}
-use Rattle.isa.specs.Reading.{nextPc}
+use Rattle.isa.specs.Reading.{Program, under, nextPc}
 use Rattle.machine.specs.Counting.{counted}
 use Rattle.machine.specs.Pins.{t1Pin, isHigh}
 use Rattle.machine.specs.Psw.{bitC}
-use Rattle.machine.specs.State.{countOf, withPc, withCount}
+use Rattle.machine.specs.State.{countOf, withPc, withMode, withCount}
 use Rattle.machine.specs.declared.Count.{Count}
 use Rattle.machine.specs.declared.Counting.{Counting}
+use Rattle.machine.specs.declared.Mode.{Mode}
+use Rattle.machine.specs.declared.Mode.the-variants.{Running}
 use Rattle.machine.specs.declared.State.{State}
-use Rattle.accumulator.specs.Rotates.{Rotate, rotated, cyclesOf, Law}
+use Rattle.accumulator.specs.Rotates.{Rotate, rotated, Law}
 use Rattle.effects.specs.declared.Event.the-variants.{Quiet}
 use Rattle.chip.specs.History.{after}
 use Rattle.chip.specs.Refusals.{Fetches}
 use Rattle.chip.specs.Run.{Progress, begun}
 
--- n steps from k to m, one after the other. Each comes to fetch: no reset and no interrupt call comes between.
-pub data Fetching (program : List ℕ) : Progress → ℕ → Progress → Type 0 where
+-- n steps from k to m, one after the other. Each comes to fetch: no reset, no wait and no interrupt call comes between.
+pub data Fetching (program : Program) : Progress → ℕ → Progress → Type 0 where
   none : {k : Progress} → Fetching program k 0 k
   step :
       {k m : Progress} {n : ℕ} (first second : ℕ) → Fetches program (k .ram) (k .state) first second
@@ -31,12 +34,12 @@ pub record Samples : Type 0 where
   pub first : ℕ
   pub second : ℕ
 
-abbrev pub samplesOf : {program : List ℕ} {k m : Progress} {n : ℕ} → Fetching program k n m → List Samples
+abbrev pub samplesOf : {program : Program} {k m : Progress} {n : ℕ} → Fetching program k n m → List Samples
 samplesOf none = []
 samplesOf (step first second f g) = record { first = first; second = second } ∷ samplesOf g
 
 -- T1's level in the first cycle of each. (A rotate has no second.)
-abbrev pub levels : {program : List ℕ} {k m : Progress} {n : ℕ} → Fetching program k n m → List Bool
+abbrev pub levels : {program : Program} {k m : Progress} {n : ℕ} → Fetching program k n m → List Bool
 levels g = map (λ x. isHigh t1Pin (x .first)) (samplesOf g)
 
 -- PC past n bytes.
@@ -44,23 +47,32 @@ abbrev pub pcPast : ℕ → ℕ → ℕ
 pcPast zero pc = pc
 pcPast (suc n) pc = pcPast n (nextPc pc)
 
+-- The mode past n instructions: the first ends a release (document 02, item 2), so the machine runs after it.
+abbrev pub modePast : ℕ → Mode → Mode
+modePast zero mode = mode
+modePast (suc n) mode = Running
+
+-- A state with another PC, mode and counter.
+abbrev pub moved : State → ℕ → Mode → Count → State
+moved s pc mode c = withCount (withMode (withPc s pc) mode) c
+
 -- The counter after a cycle with each of these levels of T1.
 abbrev pub countedOver : Counting → Bool → Count → List Bool → Count
 countedOver counting enabled c [] = c
 countedOver counting enabled c (t1 ∷ rest) = countedOver counting enabled (counted counting c t1 enabled) rest
 
--- Where the steps over a string lead, all of it: A and C are what the string makes of them, PC is past its bytes, its cycles are counted
--- and have used as many samples, there is no event, and all else is as it was.
+-- Where the steps over a string lead, all of it: A and C are what the string makes of them, PC is past its bytes, a release has ended
+-- unless the string is empty, its cycles, one for each, are counted and have used as many samples, there is no event, and all else is as it
+-- was.
 abbrev pub over : List Rotate → Progress → List Bool → Progress
 over rs k t1 =
     record {
       ram = k .ram;
       state =
-          withCount
-          (withPc (rotated rs (k .state)) (pcPast (length rs) (k .state .pc)))
+          moved (rotated rs (k .state)) (pcPast (length rs) (k .state .pc)) (modePast (length rs) (k .state .mode))
           (countedOver (k .state .counting) (k .state .interrupts .tcnti) (countOf (k .state)) t1);
-      used = k .used + cyclesOf rs;
-      cycles = k .cycles + cyclesOf rs;
+      used = k .used + length rs;
+      cycles = k .cycles + length rs;
       events = k .events ++ replicate (length rs) Quiet;
     }
 
@@ -73,11 +85,13 @@ pub record Replaced (l : Law) (ram : List ℕ) (s : State) (x y : Progress) (t1 
   pub c : bitC (x .state .psw) ≡ bitC (y .state .psw)
   pub cycles : x .cycles ≡ l .cycles
   pub instead-cycles : y .cycles ≡ l .instead-cycles
-  -- All else is the same too, but PC and the counter: T, its divider, TF, the stored request and T1's level.
-  pub state : y .state ≡ withCount (withPc (x .state) (y .state .pc)) (countOf (y .state))
+  -- All else is the same too, but PC, the counter (T, its divider, TF, the stored request and T1's level), and the mode as follows.
+  pub state : y .state ≡ moved (x .state) (y .state .pc) (y .state .mode) (countOf (y .state))
+  -- The mode is the same if the machine ran or neither string is empty: only an empty one leaves a machine just released.
+  pub mode : (s .mode ≡ Running) ⊎ ((1 ≤ length (l .string)) × (1 ≤ length (l .instead))) → x .state .mode ≡ y .state .mode
   pub memory : x .ram ≡ y .ram
 
--- In another program i steps go the way of g: with the same samples, and to the same end.
-pub record SameWay {program : List ℕ} {k m : Progress} {n : ℕ} (g : Fetching program k n m) (patched : List ℕ) (i : ℕ) : Type 0 where
-  pub way : Fetching patched k i m
+-- In another program for the same set i steps go the way of g: with the same samples, and to the same end.
+pub record SameWay {program : Program} {k m : Progress} {n : ℕ} (g : Fetching program k n m) (patched : List ℕ) (i : ℕ) : Type 0 where
+  pub way : Fetching (under (program .set) patched) k i m
   pub samples : samplesOf way ≡ samplesOf g

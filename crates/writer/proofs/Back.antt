@@ -1,8 +1,8 @@
--- No two codes have one instruction: the bytes can be taken back from it. This is the one place of the proofs that writes the codes out
--- once more; the sheet is compared with it by computation.
+-- No two codes of a set have one instruction: the bytes can be taken back from it. This is the one place of the proofs that writes the
+-- codes out once more; the sheet is compared with it by computation.
 -- Assumes nothing.
-use mathlib.Core.Path.{_≡_, refl, _∙_}
-use mathlib.Core.Bool.{Bool, true, false}
+use mathlib.Core.Path.{_≡_, refl, sym, _∙_}
+use mathlib.Core.Bool.{Bool, true, false, true≢false}
 use mathlib.Core.List.{List, [], _∷_}
 use Prim.Native.Nat.{ℕ, zero-le, _+_, _*_, _/_, _%_, _<_, _≤_}
 use native.Mathlib.Omega.{arith}
@@ -31,9 +31,12 @@ use Rattle.isa.specs.declared.DigitMove.the-variants.{MovdRead, MovdWrite, Orld
 use Rattle.isa.specs.declared.Switch.{Switch}
 use Rattle.isa.specs.declared.Switch.the-variants.{EnI, DisI, Ent0Clk, SelMb0, SelMb1, SelRb0, SelRb1, EnTcnti, DisTcnti, StopTcnt, StrtCnt, StrtT}
 use Rattle.isa.specs.declared.Instruction.{Instruction}
-use Rattle.isa.specs.declared.Instruction.the-variants.{Alu, Accumulator, Djnz, Branch, Jmp, Jmpp, Control, MovA, Mov, MovData, MovAPsw, MovPswA, Movp, Movp3, MovxRead, MovxWrite, Xch, Xchd, Cpl, Clr, Logic, In, Outl, Expander, Dec, Inc, Call, Ret, Retr, MovAT, MovTA, Nop}
+use Rattle.isa.specs.declared.Instruction.the-variants.{Alu, Accumulator, Djnz, Branch, Jmp, Jmpp, Control, MovA, Mov, MovData, MovAPsw, MovPswA, Movp, Movp3, MovxRead, MovxWrite, Xch, Xchd, Cpl, Clr, Logic, In, Outl, Expander, Dec, Inc, Call, Ret, Retr, MovAT, MovTA, Nop, Halt, Stop}
+use Rattle.isa.specs.declared.Set.{Set}
+use Rattle.isa.specs.declared.Set.the-variants.{Intel, Nec}
 use Rattle.isa.proofs.Everywhere.{everywhere}
-use Rattle.writer.specs.Writing.{holds, byteHolds, farHolds}
+use Rattle.isa.specs.Sets.{Without, standby, halt, stop}
+use Rattle.writer.specs.Writing.{holds, byteHolds, farHolds, Refuses, unknown, too-large}
 
 abbrev cellBack : ℕ → Cell → ℕ
 cellBack base (Register r) = base + 8 + r
@@ -145,6 +148,8 @@ bytesBack Retr = 0x93 ∷ []
 bytesBack MovAT = 0x42 ∷ []
 bytesBack MovTA = 0x62 ∷ []
 bytesBack Nop = 0x00 ∷ []
+bytesBack Halt = 0x01 ∷ []
+bytesBack Stop = 0x82 ∷ []
 
 -- The code and the second byte of a JMP or CALL, b and d, as its address gives them back.
 abbrev farBack : ℕ → ℕ → List ℕ
@@ -162,34 +167,59 @@ same-either true x = refl
 same-either false x = refl
 
 -- What the sheet's instructions give back, by computation. For an undefined code the sheet has NOP, whose code is 0.
-abbrev expected : ℕ → ℕ → List ℕ
-expected d b =
-    pick (eqb (entryOf b .bytes) 0) (0 ∷ [])
-    (pick (eqb (entryOf b .bytes) 1) (b ∷ []) (pick (eqb (b % 16) 4) (farBack b d) (b ∷ d ∷ [])))
+abbrev expected : Set → ℕ → ℕ → List ℕ
+expected set d b =
+    pick (eqb (entryOf set b .bytes) 0) (0 ∷ [])
+    (pick (eqb (entryOf set b .bytes) 1) (b ∷ []) (pick (eqb (b % 16) 4) (farBack b d) (b ∷ d ∷ [])))
 
-computed : (d b : ℕ) → b < 256 → bytesBack (instructionOf b d) ≡ expected d b
+computed : (set : Set) (d b : ℕ) → b < 256 → bytesBack (instructionOf set b d) ≡ expected set d b
 unfolding entryOf kindOf pick
-computed d b h = everywhere (λ b. bytesBack (instructionOf b d)) (expected d) 256 refl b h
+computed Intel d b h = everywhere (λ b. bytesBack (instructionOf Intel b d)) (expected Intel d) 256 refl b h
+computed Nec d b h = everywhere (λ b. bytesBack (instructionOf Nec b d)) (expected Nec d) 256 refl b h
 
 -- The bytes of every code with every second byte come back.
 pub bytes-back :
-    (b d : ℕ) → b < 256 → d < 256 → eqb (entryOf b .bytes) 0 ≡ false
-    → bytesBack (instructionOf b d) ≡ pick (eqb (entryOf b .bytes) 1) (b ∷ []) (b ∷ d ∷ [])
+    (set : Set) (b d : ℕ) → b < 256 → d < 256 → eqb (entryOf set b .bytes) 0 ≡ false
+    → bytesBack (instructionOf set b d) ≡ pick (eqb (entryOf set b .bytes) 1) (b ∷ []) (b ∷ d ∷ [])
 unfolding pick
-bytes-back b d hb hd defined =
-    rw (far-same b d hd, same-either (eqb (b % 16) 4) (b ∷ d ∷ [])) at (rw defined at (computed d b hb))
+bytes-back set b d hb hd defined =
+    rw (far-same b d hd, same-either (eqb (b % 16) 4) (b ∷ d ∷ [])) at (rw defined at (computed set d b hb))
 
 -- And their operands are such as the code can hold.
-holds-computed : (d b : ℕ) → b < 256 → holds (instructionOf b d) ≡ pick (eqb (entryOf b .bytes) 2) (pick (eqb (b % 16) 4) (farHolds (b / 32 * 256 + d)) (byteHolds d)) true
+abbrev expectedHolds : Set → ℕ → ℕ → Bool
+expectedHolds set d b =
+    pick (eqb (entryOf set b .bytes) 2) (pick (eqb (b % 16) 4) (farHolds (b / 32 * 256 + d)) (byteHolds d)) true
+
+holds-computed : (set : Set) (d b : ℕ) → b < 256 → holds (instructionOf set b d) ≡ expectedHolds set d b
 unfolding entryOf kindOf pick
-holds-computed d b h =
-    everywhere (λ b. holds (instructionOf b d))
-    (λ b. pick (eqb (entryOf b .bytes) 2) (pick (eqb (b % 16) 4) (farHolds (b / 32 * 256 + d)) (byteHolds d)) true) 256 refl b h
+holds-computed Intel d b h = everywhere (λ b. holds (instructionOf Intel b d)) (expectedHolds Intel d) 256 refl b h
+holds-computed Nec d b h = everywhere (λ b. holds (instructionOf Nec b d)) (expectedHolds Nec d) 256 refl b h
 
 below : (high k : ℕ) → k ≤ high → within 0 high k ≡ true
 below high k h = rw (le-leb 0 k zero-le, le-leb k high h)
 
-pub holds-back : (b d : ℕ) → b < 256 → d < 256 → holds (instructionOf b d) ≡ true
-holds-back b d hb hd =
-    holds-computed d b hb
+holds-back : (set : Set) (b d : ℕ) → b < 256 → d < 256 → holds (instructionOf set b d) ≡ true
+holds-back set b d hb hd =
+    holds-computed set d b hb
     ∙ rw (below 0x7FF (b / 32 * 256 + d) (omega arith), below 0xFF d (omega arith), same-either, same-either)
+
+first-byte : (p : Bool) (b c d : ℕ) → c ∷ [] ≡ pick p (b ∷ []) (b ∷ d ∷ []) → c ≡ b
+unfolding pick
+first-byte true b c d e = cc
+first-byte false b c d e = cc
+
+-- Nor is the instruction of a code one that the set is without: the bytes of such a one are undefined in it.
+without-undefined :
+    (set : Set) (i : Instruction) (b d : ℕ) → Without set i → bytesBack i ≡ pick (eqb (entryOf set b .bytes) 1) (b ∷ []) (b ∷ d ∷ [])
+    → eqb (entryOf set b .bytes) 0 ≡ true
+unfolding entryOf kindOf pick
+without-undefined set i b d (standby halt) e = rw (← first-byte (eqb (entryOf Intel b .bytes) 1) b 0x01 d e)
+without-undefined set i b d (standby stop) e = rw (← first-byte (eqb (entryOf Intel b .bytes) 1) b 0x82 d e)
+
+-- So the writer has no reason to refuse the instruction of a code.
+pub unrefused :
+    (set : Set) (b d : ℕ) → b < 256 → d < 256 → eqb (entryOf set b .bytes) 0 ≡ false → (n : ℕ)
+    → Refuses set (instructionOf set b d) n → ⊥
+unrefused set b d hb hd defined n (unknown w) =
+    true≢false (sym (without-undefined set (instructionOf set b d) b d w (bytes-back set b d hb hd defined)) ∙ defined)
+unrefused set b d hb hd defined n (too-large h) = true≢false (sym (holds-back set b d hb hd) ∙ h)

@@ -1,14 +1,17 @@
--- How an operand goes into a code. Which code is whose stands in isa's sheet and nowhere else in the definitions.
+-- How an operand goes into a code, and what becomes of a code that one set alone has.
+-- Which code is whose stands in isa's sheet and nowhere else in the definitions.
 -- Assumes nothing.
 use Prim.Native.Nat.{ℕ, _+_, _*_}
 use Rattle.isa.specs.Choice.{pick, within}
-use Rattle.isa.specs.declared.Refusal.the-variants.{OperandTooLarge}
+use Rattle.isa.specs.declared.Refusal.the-variants.{UndefinedCode, OperandTooLarge}
 use Rattle.isa.specs.declared.Cell.{Cell}
 use Rattle.isa.specs.declared.Cell.the-variants.{Register, Indirect}
 use Rattle.isa.specs.declared.Source.{Source}
 use Rattle.isa.specs.declared.Source.the-variants.{FromRegister, FromIndirect, Immediate}
 use Rattle.isa.specs.declared.Latch.{Latch}
 use Rattle.isa.specs.declared.Latch.the-variants.{Bus, Port}
+use Rattle.isa.specs.declared.Set.{Set}
+use Rattle.isa.specs.declared.Set.the-variants.{Intel, Nec}
 use Rattle.writer.specs.declared.Encoded.{Encoded}
 use Rattle.writer.specs.declared.Encoded.the-variants.{One, Two, Unwritten}
 
@@ -38,3 +41,8 @@ sourceCode base immediate (Immediate d) = Two immediate d
 abbrev pub latchCode : ℕ → ℕ → Latch → Encoded
 latchCode bus base Bus = One bus
 latchCode bus base (Port p) = codedLow base 1 2 p
+
+-- A code that NEC's set alone has; under Intel the writer gives 4 (document 02, item 2).
+abbrev pub necCode : Set → ℕ → Encoded
+necCode Intel code = Unwritten UndefinedCode
+necCode Nec code = One code

@@ -8,7 +8,7 @@ use lib.ListN.{length}
 use Rattle.isa.specs.Numbers.{Answer, given, refused}
 use Rattle.isa.specs.Reading.{nextPc, lacks, byteAt, Bytes}
 
--- The bytes stand in the program at the address a and at the PCs after it.
+-- Bytes stand in a program at the address a and at the PCs after it.
 abbrev pub StandsAt : List ℕ → ℕ → List ℕ → Type 0
 StandsAt program a [] = Unit {0}
 StandsAt program a (b ∷ bs) = (lacks program a ≡ false) × (byteAt program a ≡ b) × StandsAt program (nextPc a) bs

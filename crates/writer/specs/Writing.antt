@@ -1,4 +1,5 @@
--- The writer's promise (document 01): "The writer gives one or two bytes, or 23 and none."
+-- The writer's promise (document 01): "The writer gives one or two bytes, or 23 and none." And document 02, item 2: 4 "is read per set, 26
+-- undefined codes for Intel, 24 for NEC, and the writer gives it for HALT or STOP under Intel".
 -- Assumes nothing.
 use Prim.Native.Nat.{ℕ}
 use mathlib.Core.Path.{_≡_}
@@ -7,7 +8,8 @@ use mathlib.Core.List.{List, [], _∷_}
 use lib.ListN.{length}
 use Rattle.isa.specs.Choice.{within}
 use Rattle.isa.specs.Numbers.{numberOf, Answer, given, refused}
-use Rattle.isa.specs.Reading.{readOf, sized}
+use Rattle.isa.specs.Reading.{under, readOf, sized}
+use Rattle.isa.specs.Sets.{Without}
 use Rattle.isa.specs.declared.Cell.{Cell}
 use Rattle.isa.specs.declared.Cell.the-variants.{Register, Indirect}
 use Rattle.isa.specs.declared.Source.{Source}
@@ -17,7 +19,8 @@ use Rattle.isa.specs.declared.Condition.the-variants.{Jb, Jc, Jf0, Jf1, Jnc, Jn
 use Rattle.isa.specs.declared.Latch.{Latch}
 use Rattle.isa.specs.declared.Latch.the-variants.{Bus, Port}
 use Rattle.isa.specs.declared.Instruction.{Instruction}
-use Rattle.isa.specs.declared.Instruction.the-variants.{Alu, Accumulator, Djnz, Branch, Jmp, Jmpp, Control, MovA, Mov, MovData, MovAPsw, MovPswA, Movp, Movp3, MovxRead, MovxWrite, Xch, Xchd, Cpl, Clr, Logic, In, Outl, Expander, Dec, Inc, Call, Ret, Retr, MovAT, MovTA, Nop}
+use Rattle.isa.specs.declared.Instruction.the-variants.{Alu, Accumulator, Djnz, Branch, Jmp, Jmpp, Control, MovA, Mov, MovData, MovAPsw, MovPswA, Movp, Movp3, MovxRead, MovxWrite, Xch, Xchd, Cpl, Clr, Logic, In, Outl, Expander, Dec, Inc, Call, Ret, Retr, MovAT, MovTA, Nop, Halt, Stop}
+use Rattle.isa.specs.declared.Set.{Set}
 use Rattle.writer.specs.declared.Encoded.{Encoded}
 use Rattle.writer.specs.declared.Encoded.the-variants.{One, Two, Unwritten}
 
@@ -91,12 +94,19 @@ holds Retr = true
 holds MovAT = true
 holds MovTA = true
 holds Nop = true
+holds Halt = true
+holds Stop = true
 
--- An answer to the wish to write i. Bytes: read by themselves they are i, and all of them are i's. A refusal: it is 23, and the code
--- can't hold an operand of i.
-abbrev pub Writes : Instruction → Answer (List ℕ) → Type 0
-Writes i (given bytes) = readOf bytes 0 ≡ given (sized i (length bytes))
-Writes i (refused n) = (n ≡ 23) × (holds i ≡ false)
+-- What i is refused for, and with which number: the set is without it, 4; the code can't hold an operand of i, 23. It is never both, since
+-- HALT and STOP have no operands.
+pub data Refuses (set : Set) (i : Instruction) : ℕ → Type 0 where
+  unknown : Without set i → Refuses set i 4
+  too-large : holds i ≡ false → Refuses set i 23
+
+-- An answer to the wish to write i in a set. Bytes: read by themselves they are i, and all of them are i's. Or a refusal.
+abbrev pub Writes : Set → Instruction → Answer (List ℕ) → Type 0
+Writes set i (given bytes) = readOf (under set bytes) 0 ≡ given (sized i (length bytes))
+Writes set i (refused n) = Refuses set i n
 
 -- The number and the values of each of the writer's answers.
 abbrev pub encodedAs : Encoded → Answer (List ℕ)

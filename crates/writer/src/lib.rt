@@ -8,6 +8,7 @@ use isa::Join;
 use isa::Latch;
 use isa::Operation;
 use isa::Refusal;
+use isa::Set;
 use isa::Source;
 use isa::Switch;
 use isa::Unary;
@@ -15,8 +16,9 @@ ghost use mathlib.Core.Path.{_≡_};
 ghost use mathlib.Core.List.{[], _∷_};
 ghost use Prim.Native.Nat.{ℕ, _+_, _≤_, _<_};
 ghost use Rattle.isa.specs.Numbers.{given};
+ghost use Rattle.isa.specs.declared.Set.{Set};
 ghost use Rattle.isa.specs.declared.Instruction.the-variants.{Alu, Accumulator, Branch, Control, Cpl, Clr, Logic, Expander};
-ghost use Rattle.writer.specs.Codes.{codedLow, codedHigh, withSecond, cellCode, sourceCode, latchCode};
+ghost use Rattle.writer.specs.Codes.{codedLow, codedHigh, withSecond, cellCode, sourceCode, latchCode, necCode};
 ghost use Rattle.writer.specs.Writing.{Writes, encodedAs};
 
 // What the writer answers.
@@ -94,8 +96,9 @@ fn latch_code(bus: u8, base: u8, l: Latch) -> Encoded
     }
 }
 
+// From here to nec_code: what Intel's set has, and NEC's too.
 fn operation_code(op: Operation, s: Source) -> Encoded
-    ensures { λ r. ⌜ Writes (Alu op s) (encodedAs r) ⌝ }
+    ensures { λ r. ⌜ ((set : Set) → Writes set (Alu op s) (encodedAs r)) ⌝ }
 {
     match op {
         Operation::Add => source_code(0x60, 0x03, s),
@@ -107,7 +110,7 @@ fn operation_code(op: Operation, s: Source) -> Encoded
 }
 
 fn unary_code(op: Unary) -> u8
-    ensures { λ b. ⌜ Writes (Accumulator op) (given (b ∷ [])) ⌝ }
+    ensures { λ b. ⌜ ((set : Set) → Writes set (Accumulator op) (given (b ∷ []))) ⌝ }
 {
     match op {
         Unary::CplA => 0x37,
@@ -125,7 +128,7 @@ fn unary_code(op: Unary) -> u8
 
 // The code of a conditional jump; its address is the second byte.
 fn condition_code(c: Condition) -> Encoded
-    ensures { λ r. ⌜ ((d : ℕ) → Writes (Branch c d) (encodedAs (withSecond r d))) ⌝ }
+    ensures { λ r. ⌜ ((set : Set) (d : ℕ) → Writes set (Branch c d) (encodedAs (withSecond r d))) ⌝ }
 {
     match c {
         Condition::Jb(b) => coded_high(0x12, b),
@@ -145,7 +148,7 @@ fn condition_code(c: Condition) -> Encoded
 }
 
 fn switch_code(op: Switch) -> u8
-    ensures { λ b. ⌜ Writes (Control op) (given (b ∷ [])) ⌝ }
+    ensures { λ b. ⌜ ((set : Set) → Writes set (Control op) (given (b ∷ []))) ⌝ }
 {
     match op {
         Switch::EnI => 0x05,
@@ -164,7 +167,7 @@ fn switch_code(op: Switch) -> u8
 }
 
 fn cpl_code(f: Flag) -> u8
-    ensures { λ b. ⌜ Writes (Cpl f) (given (b ∷ [])) ⌝ }
+    ensures { λ b. ⌜ ((set : Set) → Writes set (Cpl f) (given (b ∷ []))) ⌝ }
 {
     match f {
         Flag::FlagC => 0xA7,
@@ -174,7 +177,7 @@ fn cpl_code(f: Flag) -> u8
 }
 
 fn clr_code(f: Flag) -> u8
-    ensures { λ b. ⌜ Writes (Clr f) (given (b ∷ [])) ⌝ }
+    ensures { λ b. ⌜ ((set : Set) → Writes set (Clr f) (given (b ∷ []))) ⌝ }
 {
     match f {
         Flag::FlagC => 0x97,
@@ -185,7 +188,7 @@ fn clr_code(f: Flag) -> u8
 
 // The code of ANL and ORL on BUS or a port; the data is the second byte.
 fn logic_code(op: Join, l: Latch) -> Encoded
-    ensures { λ r. ⌜ ((d : ℕ) → Writes (Logic op l d) (encodedAs (withSecond r d))) ⌝ }
+    ensures { λ r. ⌜ ((set : Set) (d : ℕ) → Writes set (Logic op l d) (encodedAs (withSecond r d))) ⌝ }
 {
     match op {
         Join::AnlLatch => latch_code(0x98, 0x98, l),
@@ -194,7 +197,7 @@ fn logic_code(op: Join, l: Latch) -> Encoded
 }
 
 fn digit_move_code(op: DigitMove, p: u8) -> Encoded
-    ensures { λ r. ⌜ Writes (Expander op p) (encodedAs r) ⌝ }
+    ensures { λ r. ⌜ ((set : Set) → Writes set (Expander op p) (encodedAs r)) ⌝ }
 {
     match op {
         DigitMove::MovdRead => coded_low(0x08, 4, 7, p),
@@ -204,9 +207,19 @@ fn digit_move_code(op: DigitMove, p: u8) -> Encoded
     }
 }
 
-// The bytes of an instruction.
-pub fn write(i: Instruction) -> Encoded
-    ensures { λ r. ⌜ Writes i (encodedAs r) ⌝ }
+// A code that NEC alone has; 4 under Intel.
+fn nec_code(set: Set, code: u8) -> Encoded
+    ensures { λ r. ⌜ r ≡ necCode set code ⌝ }
+{
+    match set {
+        Set::Intel => Encoded::Unwritten(Refusal::UndefinedCode),
+        Set::Nec => Encoded::One(code),
+    }
+}
+
+// The bytes of an instruction in a set.
+pub fn write(set: Set, i: Instruction) -> Encoded
+    ensures { λ r. ⌜ Writes set i (encodedAs r) ⌝ }
 {
     match i {
         Instruction::Alu(op, s) => operation_code(op, s),
@@ -241,5 +254,7 @@ pub fn write(i: Instruction) -> Encoded
         Instruction::MovAT => Encoded::One(0x42),
         Instruction::MovTA => Encoded::One(0x62),
         Instruction::Nop => Encoded::One(0x00),
+        Instruction::Halt => nec_code(set, 0x01),
+        Instruction::Stop => nec_code(set, 0x82),
     }
 }

@@ -2,6 +2,7 @@
 -- Assumes nothing.
 use denote.Ref.{now}
 use borrow.Author.Needs.{needs}
+use Rattle.isa.specs.Reading.{under}
 use Rattle.chip.proofs.Exactly.{lent-refuses}
 use Rattle.chip.proofs.step.Statement.{statement}
 use Rattle.chip.proofs.step.Tie as tie
@@ -10,7 +11,7 @@ not-admitted : tie.Need-returns
 not-admitted c =
     let a = c .before .before .before .before .args in
     let e = c .before .lent-number .ensures in
-    let r = lent-refuses (now (a .program)) (now (a .ram)) (a .state) (a .first) (a .second) (rw e at (c .if1 .taken)) in
+    let r = lent-refuses (under (a .set) (now (a .program))) (now (a .ram)) (a .state) (a .first) (a .second) (rw e at (c .if1 .taken)) in
     (rw (r .0, e), rw (r .1))
 
 pub step-spec : {M : Type 1} → statement M

@@ -10,6 +10,7 @@ use lib.Seq.{take-all}
 use denote.Ref.{now}
 use borrow.Author.Needs.{needs}
 use borrow.Author.Tests.{lt-ltb, le-ltb, le-leb, lt-leb}
+use Rattle.isa.specs.Reading.{Program, under}
 use Rattle.listing.specs.Draft.{cut, textIn}
 use Rattle.listing.specs.Listing.{lineAt, sizeAt, listedOf, lineAfter}
 use Rattle.listing.proofs.Short.{line-short}
@@ -41,7 +42,7 @@ returns-4 c =
     let shown = c .before .before .before .before .before .show in
     let else3 = c .before .before .before .before .before .before in
     let start = else3 .before .before .before .before .before in
-    let program : List ℕ = now (start .args .program) in
+    let program : Program = under (start .args .set) (now (start .args .program)) in
     let a : ℕ = start .args .address in
     let fits = line-short program a (else3 .before .before .before .before .shared-slice-known .given a .fits) in
     let text : textIn (shown .result .draft) ≡ lineAt program a = shown .ensures .0 ∙ take-all 32 (lineAt program a) fits in

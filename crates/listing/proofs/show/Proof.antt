@@ -15,7 +15,7 @@ line-two-requires : tie.Need-line-two-requires
 line-two-requires c κs =
     let e = c .before .before .before .before in
     let a = e .before .before .before .args .a in
-    (kind-small (e .entry-of .result) _ (e .entry-of .ensures) (e .before .shared-slice-known2 .given a .fits), omega arith)
+    (kind-small _ (e .entry-of .result) _ (e .entry-of .ensures) (e .before .shared-slice-known2 .given a .fits), omega arith)
 
 returns : tie.Need-returns
 unfolding lineAt sizeAt pick
@@ -37,7 +37,7 @@ line-one-requires-2 : tie.Need-line-one-requires-2
 line-one-requires-2 c κs =
     let e = c .before .before in
     let a = e .before .before .before .args .a in
-    (kind-small (e .entry-of .result) _ (e .entry-of .ensures) (e .before .shared-slice-known2 .given a .fits), omega arith)
+    (kind-small _ (e .entry-of .result) _ (e .entry-of .ensures) (e .before .shared-slice-known2 .given a .fits), omega arith)
 
 returns-3 : tie.Need-returns-3
 unfolding lineAt sizeAt pick

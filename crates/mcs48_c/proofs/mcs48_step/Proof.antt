@@ -1,27 +1,22 @@
 -- `mcs48_c::mcs48_step` meets its contract: a run over two samples is one step.
 -- Assumes nothing.
-use mathlib.Core.Path.{ap, _∙_}
+use mathlib.Core.Path.{_∙_}
 use denote.Ref.{now}
 use borrow.Author.Needs.{needs}
-use Rattle.chip.specs.Run.{Ended}
-use Rattle.mcs48_c.specs.Bytes.{stateOf}
-use Rattle.mcs48_c.proofs.OneStep.{one-step, stepped, kept}
+use Rattle.mcs48_c.proofs.OneStep.{stepped, left, kept}
 use Rattle.mcs48_c.proofs.mcs48_step.Statement.{statement}
 use Rattle.mcs48_c.proofs.mcs48_step.Tie as tie
 
 returns : tie.Need-returns
 returns c =
-    let called = c .before .before .before .before .before .before in
+    let called = c .before .before .before .before .before .before .before in
     let ran = called .run-lent .ensures in
     let a = called .before .before .before .before .before .before .before .args in
     let program = now (a .program) in
     let ram = now (a .ram) in
     let bytes = now (a .state) in (
-      rw (c .pack-step .ensures, ran .0) (stepped program ram (stateOf bytes) (a .first) (a .second)),
-      (
-        ran .1 .0 ∙ ap (λ (e : Ended). e .ram) (one-step program ram (stateOf bytes) (a .first) (a .second)),
-        ran .1 .1 ∙ kept program ram (stateOf bytes) (a .first) (a .second) bytes,
-      ),
+      rw (c .pack-step .ensures, ran .0) (stepped (a .set) program ram bytes (a .first) (a .second)),
+      (ran .1 .0 ∙ left (a .set) program ram bytes (a .first) (a .second), ran .1 .1 ∙ kept (a .set) program ram bytes (a .first) (a .second)),
     )
 
 pub mcs48-step-spec : {M : Type 1} → statement M
@@ -30,6 +25,7 @@ mcs48-step-spec =
     (tie.spec
     (λ c. search needs)
     (λ c κs. search needs)
+    (λ c. search needs)
     (λ c. search needs)
     (λ c κs. search needs)
     (λ c. search needs)

@@ -15,7 +15,7 @@ one-byte : tie.Need-returns-2
 unfolding decodedAt pick
 one-byte c =
     simp (
-      c .pack .ensures,
+      c .pack .ensures .0,
       ← (c .before .before .before .entry-of .ensures),
       ne-eqb _ _ (c .before .before .if1 .left),
       eq-eqb _ _ (c .before .if2 .taken),
@@ -38,7 +38,7 @@ two-bytes : tie.Need-returns-4
 unfolding decodedAt pick
 two-bytes c =
     simp (
-      c .pack2 .ensures,
+      c .pack2 .ensures .0,
       ← (c .before .before .before .before .before .before .entry-of .ensures),
       ne-eqb _ _ (c .before .before .before .before .before .if1 .left),
       ne-eqb _ _ (c .before .before .before .before .if2 .left),

@@ -4,7 +4,6 @@ use borrow.Author.Needs.{needs}
 use mathlib.Core.Path.{refl}
 use Rattle.isa.specs.Choice.{pick}
 use Rattle.isa.specs.Sheet.{kindOf, entryOf}
-use Rattle.isa.specs.Reading.{readOf, instructionAt, decodedAt}
 use Rattle.isa.specs.declared.DigitMove.the-variants.{MovdRead, MovdWrite, Orld, Anld}
 use Rattle.isa.specs.declared.Instruction.the-variants.{Expander}
 use Rattle.writer.proofs.Families.{low-writes}
@@ -12,7 +11,7 @@ use Rattle.writer.proofs.digit_move_code.Statement.{statement}
 use Rattle.writer.proofs.digit_move_code.Tie as tie
 
 pub digit-move-code-spec : {M : Type 1} → statement M
-unfolding readOf instructionAt decodedAt entryOf kindOf pick
+unfolding entryOf kindOf pick
 digit-move-code-spec =
     tie.close
     (tie.spec

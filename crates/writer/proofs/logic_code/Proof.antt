@@ -4,14 +4,13 @@ use borrow.Author.Needs.{needs}
 use mathlib.Core.Path.{refl}
 use Rattle.isa.specs.Choice.{pick}
 use Rattle.isa.specs.Sheet.{kindOf, entryOf}
-use Rattle.isa.specs.Reading.{readOf, instructionAt, decodedAt}
 use Rattle.isa.specs.declared.Join.the-variants.{AnlLatch, OrlLatch}
 use Rattle.writer.proofs.Families.{logic-writes}
 use Rattle.writer.proofs.logic_code.Statement.{statement}
 use Rattle.writer.proofs.logic_code.Tie as tie
 
 pub logic-code-spec : {M : Type 1} → statement M
-unfolding readOf instructionAt decodedAt entryOf kindOf pick
+unfolding entryOf kindOf pick
 logic-code-spec =
     tie.close
     (tie.spec

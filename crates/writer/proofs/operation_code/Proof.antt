@@ -4,7 +4,6 @@ use borrow.Author.Needs.{needs}
 use mathlib.Core.Path.{refl}
 use Rattle.isa.specs.Choice.{pick}
 use Rattle.isa.specs.Sheet.{kindOf, entryOf}
-use Rattle.isa.specs.Reading.{readOf, instructionAt, decodedAt}
 use Rattle.isa.specs.declared.Operation.the-variants.{Add, Addc, Anl, Orl, Xrl}
 use Rattle.isa.specs.declared.Instruction.the-variants.{Alu}
 use Rattle.writer.proofs.Families.{source-writes}
@@ -12,7 +11,7 @@ use Rattle.writer.proofs.operation_code.Statement.{statement}
 use Rattle.writer.proofs.operation_code.Tie as tie
 
 pub operation-code-spec : {M : Type 1} → statement M
-unfolding readOf instructionAt decodedAt entryOf kindOf pick
+unfolding entryOf kindOf pick
 operation-code-spec =
     tie.close
     (tie.spec

@@ -23,12 +23,12 @@ carried-out c =
     let a = c .before .before .before .before .before .before .before .before .before .before .before .before .args in
     let z = c .before .before .before .before .before .before .before .if1 .left in
     let made = c .before .before .before .before .before .before .made .ensures in
-    let past = c .before .before .before .before .with-pc .ensures in
+    let past = c .before .before .before .before .running-at .ensures in
     let x : Effect =
-    executed (c .before .before .before .before .before .before .made .result) (now (a .program)) (now (a .ram)) (c .before .before .before .before .with-pc .result) (a .s .pc) (a .first) (a .second) in
+    executed (c .before .before .before .before .before .before .made .result) (now (a .program)) (now (a .ram)) (c .before .before .before .before .running-at .result) (a .s .pc) (a .first) (a .second) in
     let e = c .before .before .before .execute .ensures in (
       rw (f .one z, ← (f .next z), ← (f .cycles z), ← made, ← past) (c .finish .ensures x (e .0)),
-      rw (f .one z, ← (f .next z), ← (f .cycles z), ← made, ← past, done-writes x _ _ (refused-writes (now (a .program)) (now (a .ram)) (c .before .before .before .before .with-pc .result) (a .s .pc) (a .first) (a .second) (c .before .before .before .before .before .before .made .result))) (e .1),
+      rw (f .one z, ← (f .next z), ← (f .cycles z), ← made, ← past, done-writes x _ _ (refused-writes (now (a .program)) (now (a .ram)) (c .before .before .before .before .running-at .result) (a .s .pc) (a .first) (a .second) (c .before .before .before .before .before .before .made .result))) (e .1),
     )
 
 pub carry-out-spec : {M : Type 1} → statement M

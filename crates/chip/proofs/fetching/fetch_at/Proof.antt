@@ -12,21 +12,21 @@ code-undefined : tie.Need-returns-2
 code-undefined c =
     let e = c .before .before in
     undefined _ _ (e .entry-in .result)
-    (entry-is _ (e .before .before .before .before .pre) (e .before .shared-slice-known2 .given _ .fits) (e .entry-in .ensures))
+    (entry-is _ _ (e .before .before .before .before .pre) (e .before .shared-slice-known2 .given _ .fits) (e .entry-in .ensures))
     (e .before .before .if1 .left) (c .number2 .ensures) (c .before .if2 .taken)
 
 alone : tie.Need-returns-3
 alone c =
     let e = c .before .before .before in
     one-byte _ _ (e .entry-in .result)
-    (entry-is _ (e .before .before .before .before .pre) (e .before .shared-slice-known2 .given _ .fits) (e .entry-in .ensures))
+    (entry-is _ _ (e .before .before .before .before .pre) (e .before .shared-slice-known2 .given _ .fits) (e .entry-in .ensures))
     (e .before .before .if1 .left) (c .if3 .taken) (c .before .next-pc .ensures)
 
 past-end-2 : tie.Need-returns-4
 past-end-2 c =
     let e = c .before .before .before .before .before in
     no-second _ _ (e .entry-in .result)
-    (entry-is _ (e .before .before .before .before .pre) (e .before .shared-slice-known2 .given _ .fits) (e .entry-in .ensures))
+    (entry-is _ _ (e .before .before .before .before .pre) (e .before .shared-slice-known2 .given _ .fits) (e .entry-in .ensures))
     (e .before .before .if1 .left) (c .number3 .ensures)
     (c .before .before .before .before .if2 .left) (c .before .before .if3 .left) (c .before .before .before .next-pc .ensures) (c .before .if4 .taken)
 
@@ -34,7 +34,7 @@ with-second : tie.Need-returns-5
 with-second c =
     let e = c .before .before .before .before .before .before in
     two-bytes _ _ (e .entry-in .result)
-    (entry-is _ (e .before .before .before .before .pre) (e .before .shared-slice-known2 .given _ .fits) (e .entry-in .ensures))
+    (entry-is _ _ (e .before .before .before .before .pre) (e .before .shared-slice-known2 .given _ .fits) (e .entry-in .ensures))
     (e .before .before .if1 .left)
     (c .before .before .before .before .before .if2 .left) (c .before .before .before .if3 .left)
     (c .before .before .before .before .next-pc .ensures) (c .before .before .if4 .left) (c .next-pc2 .ensures)

@@ -107,4 +107,6 @@ made-spec =
     (λ c. search arm)
     (λ c. search arm)
     (λ c. search arm)
+    (λ c. search arm)
+    (λ c. search arm)
     (λ c. last _ _ _ (c .match .rest)))

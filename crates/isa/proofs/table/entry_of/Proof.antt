@@ -6,7 +6,7 @@ use Rattle.isa.proofs.table.entry_of.Statement.{statement}
 use Rattle.isa.proofs.table.entry_of.Tie as tie
 
 returns : tie.Need-returns
-returns c = rw (c .entry-in .ensures, c .before .before .opcodes .ensures) (entry-held _ (search needs))
+returns c = rw (c .entry-in .ensures, c .before .before .opcodes .ensures) (entry-held _ _ (search needs))
 
 pub entry-of-spec : {M : Type 1} → statement M
 entry-of-spec = tie.close (tie.spec (λ c κs. search needs) (λ c κs. search needs) returns)

@@ -15,7 +15,10 @@ cast true = refl
 
 returns : tie.Need-returns
 unfolding bytesOf
-returns c = simp (cast, c .before .before .before .before .before .before .before .before .counting-byte .ensures)
+returns c =
+    let mode = c .mode-byte .ensures in
+    let counting = c .before .before .before .before .before .before .before .before .before .counting-byte .ensures in
+    simp (cast, counting, mode)
 
 pub bytes-of-spec : {M : Type 1} → statement M
 bytes-of-spec =
@@ -34,4 +37,5 @@ bytes-of-spec =
     (λ c. search needs)
     (λ c. search needs)
     (λ c. search needs)
+    (λ c κs. search needs)
     returns)

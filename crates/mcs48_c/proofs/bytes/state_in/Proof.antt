@@ -30,4 +30,6 @@ state-in-spec =
     (λ c κs. search needs)
     (λ c. search needs)
     (λ c κs. search needs)
-    (λ c. rw (c .counting-of .ensures, c .before .before .word .ensures)))
+    (λ c. search needs)
+    (λ c κs. search needs)
+    (λ c. rw (c .mode-of .ensures, c .before .before .counting-of .ensures, c .before .before .before .before .word .ensures)))

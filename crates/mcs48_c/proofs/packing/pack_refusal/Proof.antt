@@ -10,4 +10,4 @@ pack-refusal-spec =
     (tie.spec
     (λ c κs. search needs)
     (λ c κs. search needs)
-    (λ c. rw (c .pack .ensures, c .before .number .ensures)))
+    (λ c. rw (c .pack .ensures .0, c .before .number .ensures)))

@@ -1,5 +1,6 @@
--- `mcs48_c::packing::pack_step` meets its contract: an arm for each kind of event.
+-- `mcs48_c::packing::pack_step` meets its contract: bytes 0 to 4 are below 2 ^ 40, so byte 6 can be added.
 -- Assumes nothing.
+use native.Mathlib.Omega.{arith}
 use borrow.Author.Needs.{needs}
 use Rattle.mcs48_c.proofs.packing.pack_step.Statement.{statement}
 use Rattle.mcs48_c.proofs.packing.pack_step.Tie as tie
@@ -8,16 +9,7 @@ pub pack-step-spec : {M : Type 1} → statement M
 pack-step-spec =
     tie.close
     (tie.spec
-    (λ c. search needs)
     (λ c κs. search needs)
     (λ c. search needs)
-    (λ c κs. search needs)
-    (λ c. search needs)
-    (λ c κs. search needs)
-    (λ c. search needs)
-    (λ c κs. search needs)
-    (λ c κs. search needs)
-    (λ c. rw (c .before .enum-told .given .1) (c .pack .ensures))
-    (λ c. rw (c .before .before .event .given .1) (c .pack2 .ensures))
-    (λ c. rw (c .before .before .event2 .given .1) (c .pack3 .ensures))
-    (λ c. rw (c .before .before .before .event3 .given .1, ← (c .before .move-number .ensures)) (c .pack4 .ensures)))
+    (λ c. omega (arith, c .pack-event .ensures .1))
+    (λ c. rw (c .pack-event .ensures .0)))
