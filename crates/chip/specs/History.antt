@@ -136,8 +136,8 @@ pub record JustStarted (c : ℕ) (s : State) : Type 0 where
   pub t : s .t ≡ c
   pub divider : s .divider ≡ 0
 
--- The step is the call to location 7: PC is 7, the request is cleared, the interrupt is in service, it takes two cycles and samples, and "RAM 8 + 2 x SP
--- takes PC bits 0-7, the next byte PC bits 8-11 low and PSW bits 4-7 high".
+-- The step is the call to location 7: PC is 7, the request is cleared, the interrupt is in service, it takes two cycles and samples, and
+-- "RAM 8 + 2 x SP takes PC bits 0-7, the next byte PC bits 8-11 low and PSW bits 4-7 high".
 pub record CallTo7 (program : Program) (k : Progress) (first second : ℕ) : Type 0 where
   pub call : courseAt program k first second ≡ accepted (called (withoutRequest (k .state)) 7) 2
   pub pc : after program k first second .state .pc ≡ 7

@@ -52,8 +52,8 @@ abbrev pub halted : Set → ℕ
 halted Intel = 0
 halted Nec = 1
 
--- The run over all samples ends with the call to location 7, complete exactly 3 cycles after the overflow: the request is cleared, the interrupt is in service,
--- and the loop's address, 002, lies in RAM 8 and 9 with PSW bits 4-7, which are 0.
+-- The run over all samples ends with the call to location 7, complete exactly 3 cycles after the overflow: the request is cleared, the
+-- interrupt is in service, and the loop's address, 002, lies in RAM 8 and 9 with PSW bits 4-7, which are 0.
 pub record Late (set : Set) (c : ℕ) (e : Ended) : Type 0 where
   pub number : e .ran .number ≡ 0
   pub used : e .ran .used ≡ length (samples set c)

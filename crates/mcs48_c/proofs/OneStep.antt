@@ -21,7 +21,8 @@ use Rattle.chip.specs.declared.Ran.{Ran}
 use Rattle.chip.proofs.Exactly.{Unchanged, refused-unchanged}
 use Rattle.chip.proofs.Lasting.{Spends, in-cycles, in-waiting, plan-busy}
 use Rattle.mcs48_c.specs.Bytes.{stateOf, holding}
-use Rattle.mcs48_c.specs.Calls.{stepFrom, ramFrom, runFrom, afterRun, afterStep}
+use Rattle.mcs48_c.specs.Calls.{stepFrom, ramFrom, runFrom, spent, afterRun, afterStep}
+use Rattle.mcs48_c.specs.declared.Spent.{Spent}
 use Rattle.mcs48_c.specs.Packed.{packedUsed, packedStep}
 use Rattle.mcs48_c.proofs.Naming.{Names, a-set, no-set, names}
 
@@ -87,12 +88,12 @@ record Little (o : Outcome) : Type 0 where
 step-little : (program : Program) (ram : List ℕ) (s : State) (x y : ℕ) → Little (stepOf program ram s x y)
 step-little program ram s x y = go (eqb (plan program ram s x y .number) 0) refl
   where
-    spent : step program ram s x y .number ≡ 0 → Spends (step program ram s x y .cycles) (step program ram s x y .used) → Little (step program ram s x y)
-    spent a (in-cycles l g e) = record { cycles = g; used = omega (arith, g, e); some = λ z. omega (arith, l, e); none = λ z. absurd (z a) }
-    spent a (in-waiting e f) = record { cycles = omega (arith, e); used = omega (arith, f); some = λ z. omega (arith, f); none = λ z. absurd (z a) }
+    spends : step program ram s x y .number ≡ 0 → Spends (step program ram s x y .cycles) (step program ram s x y .used) → Little (step program ram s x y)
+    spends a (in-cycles l g e) = record { cycles = g; used = omega (arith, g, e); some = λ z. omega (arith, l, e); none = λ z. absurd (z a) }
+    spends a (in-waiting e f) = record { cycles = omega (arith, e); used = omega (arith, f); some = λ z. omega (arith, f); none = λ z. absurd (z a) }
 
     go : (q : Bool) → eqb (plan program ram s x y .number) 0 ≡ q → Little (step program ram s x y)
-    go true h = spent (eqb-true _ _ h) (plan-busy program ram s x y .spends (eqb-true _ _ h))
+    go true h = spends (eqb-true _ _ h) (plan-busy program ram s x y .spends (eqb-true _ _ h))
     go false h =
         let n : plan program ram s x y .number ≡ 0 → ⊥ = eqb-false _ _ h in
         let c = unchanged program ram s x y n .cycles in
@@ -142,8 +143,10 @@ module _ (name : ℕ) (program ram bytes : List ℕ) (x y : ℕ) where
   is : ran ≡ asRun (stepFrom name program ram bytes x y) (ramFrom name program ram bytes x y) .ran
   is = ap (λ (e : Ended). e .ran) one-call
 
-  pub stepped : packedUsed (ran .number) (ran .cycles % 256) (ran .used % 256) (ran .event) ≡ packedStep (stepFrom name program ram bytes x y)
-  stepped = rw is (bytes-told (stepFrom name program ram bytes x y) call-little)
+  pub stepped :
+      (r : Spent) → r ≡ spent ran
+      → packedUsed (r .number) (r .cycles % 256) (r .used % 256) (r .event) ≡ packedStep (stepFrom name program ram bytes x y)
+  stepped r e = rw (e, is) (bytes-told (stepFrom name program ram bytes x y) call-little)
 
   pub left : runFrom name program ram bytes (x ∷ y ∷ []) .ram ≡ ramFrom name program ram bytes x y
   left = ap (λ (e : Ended). e .ram) one-call

@@ -15,7 +15,7 @@ returns c =
     let program = now (a .program) in
     let ram = now (a .ram) in
     let bytes = now (a .state) in (
-      rw (c .pack-step .ensures, ran .0) (stepped (a .set) program ram bytes (a .first) (a .second)),
+      c .pack-step .ensures ∙ stepped (a .set) program ram bytes (a .first) (a .second) (called .run-lent .result) (ran .0),
       (ran .1 .0 ∙ left (a .set) program ram bytes (a .first) (a .second), ran .1 .1 ∙ kept (a .set) program ram bytes (a .first) (a .second)),
     )
 
