@@ -55,8 +55,8 @@ static struct end run_proved(size_t most)
     mcs48_power_up(end.state, sizeof end.state);
     double before = now();
     while (number == 0 && SAMPLES - end.used >= 2) {
-        number = mcs48_run(MCS48_INTEL, program, PROGRAM, end.ram, RAM, end.state, STATE_BYTES,
-                           samples + end.used, piece(end.used, most), totals, 2);
+        number = mcs48_run(MCS48_INTEL, program, PROGRAM, NULL, 0, end.ram, RAM, end.state,
+                           STATE_BYTES, samples + end.used, piece(end.used, most), totals, 2);
         end.used += totals[0];
     }
     end.ns = now() - before;
@@ -74,7 +74,7 @@ static struct end run_second(size_t most)
     second_power_up(&state);
     double before = now();
     while (totals.number == 0 && SAMPLES - end.used >= 2) {
-        totals = second_run(SECOND_INTEL, program, PROGRAM, end.ram, RAM, &state,
+        totals = second_run(SECOND_INTEL, program, PROGRAM, NULL, 0, end.ram, RAM, &state,
                             samples + end.used, piece(end.used, most));
         end.used += totals.samples;
     }
@@ -93,8 +93,8 @@ static uint64_t count_steps(void)
 
     second_power_up(&state);
     for (size_t used = 0; SAMPLES - used >= 2; steps++)
-        used += second_step(SECOND_INTEL, program, PROGRAM, ram, RAM, &state, samples[used],
-                            samples[used + 1])
+        used += second_step(SECOND_INTEL, program, PROGRAM, NULL, 0, ram, RAM, &state,
+                            samples[used], samples[used + 1])
                     .samples;
     return steps;
 }

@@ -27,8 +27,8 @@ static _Noreturn void stop(const char *why)
 static void one_run(void)
 {
     uint64_t totals[2];
-    uint64_t number = mcs48_run(MCS48_INTEL, program, PROGRAM, ram, RAM, state, sizeof state,
-                                samples, COUNTED, totals, 2);
+    uint64_t number = mcs48_run(MCS48_INTEL, program, PROGRAM, NULL, 0, ram, RAM, state,
+                                sizeof state, samples, COUNTED, totals, 2);
 
     if (number != 0)
         stop("the run is refused");
@@ -41,8 +41,8 @@ static uint64_t single_steps(void)
     uint64_t steps = 0;
 
     for (size_t used = 0; COUNTED - used >= 2; steps++) {
-        uint64_t answer = mcs48_step(MCS48_INTEL, program, PROGRAM, ram, RAM, state, sizeof state,
-                                     samples[used], samples[used + 1]);
+        uint64_t answer = mcs48_step(MCS48_INTEL, program, PROGRAM, NULL, 0, ram, RAM, state,
+                                     sizeof state, samples[used], samples[used + 1]);
 
         if (mcs48_number(answer) != 0)
             stop("a step is refused");

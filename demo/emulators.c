@@ -7,22 +7,24 @@
 size_t proved_chip(struct box *box, size_t count)
 {
     uint64_t totals[2]; /* samples used, machine cycles */
-    uint64_t result = mcs48_run(MCS48_INTEL, box_rom, sizeof box_rom, box->ram, sizeof box->ram,
-                                box->state, sizeof box->state, box->samples, count, totals, 2);
+    uint64_t result =
+        mcs48_run(MCS48_INTEL, box_rom, sizeof box_rom, NULL, 0, box->ram, sizeof box->ram,
+                  box->state, sizeof box->state, box->samples, count, totals, 2);
 
     box_accept(mcs48_number(result));
     return totals[0];
 }
 
 typedef struct second_totals second_runner(uint32_t set, const uint8_t *program, size_t program_len,
-                                           uint8_t *ram, size_t ram_len, struct second_state *state,
+                                           const uint8_t *outside, size_t outside_len, uint8_t *ram,
+                                           size_t ram_len, struct second_state *state,
                                            const uint32_t *samples, size_t samples_len);
 
 static size_t run_second(second_runner *run, struct box *box, size_t count)
 {
     /* The second emulator has its state in a struct, the box in the 24 bytes of the C interface. */
     struct second_state state = state_of_bytes(box->state, sizeof box->state);
-    struct second_totals totals = run(SECOND_INTEL, box_rom, sizeof box_rom, box->ram,
+    struct second_totals totals = run(SECOND_INTEL, box_rom, sizeof box_rom, NULL, 0, box->ram,
                                       sizeof box->ram, &state, box->samples, count);
 
     box_accept(totals.number);

@@ -15,8 +15,8 @@ int main(void)
     for (int cycle = 0; cycle < 34; cycle++)
         samples[cycle] = 0x0FFFFFFF;
     mcs48_power_up(state, sizeof state);
-    uint64_t result = mcs48_run(MCS48_INTEL, rom, sizeof rom, ram, sizeof ram, state, sizeof state,
-                                samples, 34, totals, 2);
+    uint64_t result = mcs48_run(MCS48_INTEL, rom, sizeof rom, NULL, 0, ram, sizeof ram, state,
+                                sizeof state, samples, 34, totals, 2);
     printf("number %d, %d samples used, %d machine cycles\n", (int)mcs48_number(result),
            (int)totals[0], (int)totals[1]);
     printf("A=%02X PC=%X%02X PSW=%02X T=%02X\n", state[0], state[2], state[1], state[3], state[6]);

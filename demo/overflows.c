@@ -10,8 +10,8 @@ enum { TIMER_VECTOR = 7 };
 /* One step, with the same levels in both of its cycles; returns how many it took. */
 static unsigned step(struct box *box, uint32_t pins)
 {
-    uint64_t answer = mcs48_step(MCS48_INTEL, box_rom, sizeof box_rom, box->ram, sizeof box->ram,
-                                 box->state, sizeof box->state, pins, pins);
+    uint64_t answer = mcs48_step(MCS48_INTEL, box_rom, sizeof box_rom, NULL, 0, box->ram,
+                                 sizeof box->ram, box->state, sizeof box->state, pins, pins);
 
     box_accept(mcs48_number(answer));
     return mcs48_cycles(answer);

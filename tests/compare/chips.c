@@ -23,18 +23,31 @@ bool is_defined(uint32_t set, uint8_t code)
     return memchr(undefined, code, sizeof undefined) == NULL;
 }
 
+/* The data sheets' codes: a row for each high digit, a bit for each low one. */
+bool is_two_bytes(uint8_t code)
+{
+    static const uint16_t rows[16] = {0x0018, 0x005C, 0x0058, 0x0054, 0x0058, 0x005C,
+                                      0x0010, 0x0054, 0x0750, 0x0754, 0x0010, 0xFF57,
+                                      0x0050, 0x001C, 0xFF50, 0x0054};
+
+    return rows[code >> 4] >> (code & 0xF) & 1;
+}
+
 /* Random chips. */
+
+void random_programs(struct chip *chip)
+{
+    chip->program_len = program_sizes[below(3)];
+    chip->outside_len = one_in(4) ? 0 : OUTSIDE;
+    random_bytes(chip->program, 4096);
+    random_bytes(chip->outside, OUTSIDE);
+    chip->kept = false;
+}
 
 void random_sizes(struct chip *chip)
 {
-    chip->program_len = program_sizes[below(3)];
     chip->ram_len = ram_sizes[below(3)];
     chip->state_len = STATE_BYTES;
-}
-
-void random_program(struct chip *chip)
-{
-    random_bytes(chip->program, 4096);
 }
 
 /* Half of the time one at which something carries, wraps, is zero or leaves a small RAM. */
@@ -55,16 +68,17 @@ void random_ram(struct chip *chip)
     }
 }
 
-static uint16_t random_pc(size_t program_len)
+/* Mostly where there is a byte: inside the program, or also outside if there is a second. */
+static uint16_t random_pc(const struct chip *chip)
 {
-    static const uint16_t edges[] = {0x000, 0x0FE, 0x0FF, 0x3FE, 0x3FF, 0x7FE,
-                                     0x7FF, 0x800, 0xBFF, 0xFFE, 0xFFF};
+    static const uint16_t edges[] = {0x000, 0x0FE, 0x0FF, 0x3FE, 0x3FF, 0x400,
+                                     0x7FE, 0x7FF, 0x800, 0xBFF, 0xFFE, 0xFFF};
     uint16_t pc = (uint16_t)below(4096);
 
     if (one_in(2))
         pc = edges[below(LENGTH(edges))];
-    if (!one_in(16)) /* mostly inside the program */
-        pc = (uint16_t)(pc % program_len);
+    if (chip->outside_len != 0 ? one_in(2) : !one_in(16))
+        pc = (uint16_t)(pc % chip->program_len);
     return pc;
 }
 
@@ -101,7 +115,7 @@ void random_state(struct chip *chip)
             state[i] &= 1;
     }
     state[BYTE_A] = random_byte();
-    set_pc(chip, random_pc(chip->program_len));
+    set_pc(chip, random_pc(chip));
     state[BYTE_PSW] = (uint8_t)((state[BYTE_PSW] & 0xF0) | 0x08 | random_sp());
     state[BYTE_T] = one_in(2) ? 0xFF : random_byte();
     state[BYTE_DIVIDER] = random_divider();
@@ -112,12 +126,12 @@ void random_state(struct chip *chip)
 
 uint32_t random_sample(void)
 {
-    uint32_t sample = random_word() & SECOND_PIN_IDLE;
+    uint32_t sample = random_word() & ~SECOND_PIN_NONE;
 
     if (!one_in(16))
         sample |= SECOND_PIN_RESET;
     if (one_in(64))
-        sample |= UINT32_C(1) << (28 + below(4));
+        sample |= UINT32_C(1) << (29 + below(3));
     return sample;
 }
 
@@ -139,21 +153,16 @@ uint8_t *register_of(struct chip *chip, unsigned r)
     return &chip->ram[(chip->state[BYTE_PSW] & 0x10 ? 24 : 0) + r];
 }
 
-void put_code(struct chip *chip, uint8_t code)
+uint16_t next_pc(uint16_t pc)
 {
-    if (pc_of(chip) < chip->program_len)
-        chip->program[pc_of(chip)] = code;
+    return (uint16_t)((pc & 0x800) | ((pc + 1) & 0x7FF));
 }
 
-static uint16_t next_pc(const struct chip *chip)
+uint8_t *fetched(struct chip *chip, bool ea, uint16_t address)
 {
-    return (uint16_t)((pc_of(chip) & 0x800) | ((pc_of(chip) + 1) & 0x7FF));
-}
-
-void put_operand(struct chip *chip, uint8_t operand)
-{
-    if (next_pc(chip) < chip->program_len)
-        chip->program[next_pc(chip)] = operand;
+    if (!ea && address < chip->program_len)
+        return &chip->program[address];
+    return address < chip->outside_len ? &chip->outside[address] : NULL;
 }
 
 /* Both emulators. */
@@ -161,17 +170,34 @@ void put_operand(struct chip *chip, uint8_t operand)
 void new_rooms(struct lent_chip *lent)
 {
     lent->program = new_room(PROGRAM_ROOM);
+    lent->outside = new_room(PROGRAM_ROOM);
     lent->ram = new_room(RAM_ROOM);
     lent->state = new_room(STATE_ROOM);
 }
 
 void lend_chip(struct lent_chip *lent, const struct chip *chip)
 {
-    lend(&lent->program, chip->program, chip->program_len);
+    if (!chip->kept || lent->program.len != chip->program_len)
+        lend(&lent->program, chip->program, chip->program_len);
+    if (!chip->kept || lent->outside.len != chip->outside_len)
+        lend(&lent->outside, chip->outside, chip->outside_len);
+    lent->outside_at = chip->outside_len == 0 && one_in(2) ? NULL : lent->outside.at;
     lend(&lent->ram, chip->ram, chip->ram_len);
     lend(&lent->state, chip->state, chip->state_len);
     lent->second_state = state_of_bytes(chip->state, chip->state_len);
     memcpy(lent->second_ram, chip->ram, chip->ram_len);
+}
+
+void put_byte(struct lent_chip *lent, struct chip *chip, bool ea, uint16_t address, uint8_t byte)
+{
+    uint8_t *at = fetched(chip, ea, address);
+    struct lent *program = !ea && address < chip->program_len ? &lent->program : &lent->outside;
+
+    if (at == NULL)
+        return;
+    *at = byte;
+    if (address < program->len)
+        program->at[address] = byte;
 }
 
 /* The bytes that the second emulator's state stands for. */
@@ -183,38 +209,51 @@ static void second_bytes(const struct lent_chip *lent, const struct chip *before
         memcpy(bytes, before->state, before->state_len);
 }
 
-void compare_chips(const struct lent_chip *lent, const struct chip *before)
+void compare_chips(struct lent_chip *lent, const struct chip *before)
 {
     uint8_t state[STATE_ROOM];
 
     second_bytes(lent, before, state);
     came_back(&lent->state, "the state", state);
     came_back(&lent->ram, "the RAM", lent->second_ram);
+    if (before->kept && lent->calls++ % 8 != 0)
+        return;
     came_back(&lent->program, "the program", before->program);
+    came_back(&lent->outside, "the second program", before->outside);
 }
 
-static void show_program(const struct chip *chip, const char *label, size_t from, size_t len)
+static void show_bytes(const uint8_t *program, size_t program_len, size_t from, size_t len)
+{
+    if (from >= program_len)
+        printf(" none");
+    for (size_t i = from; i < from + len && i < program_len; i++)
+        printf(" %02X", program[i]);
+}
+
+static void show_programs(const struct chip *chip, const char *label, size_t from, size_t len)
 {
     printf("  %s, %03zX:", label, from);
-    for (size_t i = from; i < from + len && i < chip->program_len; i++)
-        printf(" %02X", chip->program[i]);
+    show_bytes(chip->program, chip->program_len, from, len);
+    printf("%s outside", len > 1 ? "\n   " : ",");
+    show_bytes(chip->outside, chip->outside_len, from, len);
     printf("\n");
 }
 
-/* Of the program, all that one step can read. */
+/* Of both programs, all that one step can read. */
 void show_before(const struct chip *chip)
 {
     uint16_t pc = pc_of(chip);
+    uint16_t next = next_pc(pc);
     uint8_t a = chip->state[BYTE_A];
 
-    printf("  %s (%08X), program of %zu bytes\n", set_name(chip->set), (unsigned)chip->set,
-           chip->program_len);
-    show_program(chip, "around PC", pc & 0xFFF0u, 32);
-    show_program(chip, "at PC", pc, 1);
-    show_program(chip, "at the next PC", next_pc(chip), 1);
-    show_program(chip, "table byte in PC's page", (pc & 0xF00u) | a, 1);
-    show_program(chip, "table byte in the next PC's page", (next_pc(chip) & 0xF00u) | a, 1);
-    show_program(chip, "table byte in page 3", (pc & 0x800u) | 0x300u | a, 1);
+    printf("  %s (%08X), program of %zu bytes, second program of %zu\n", set_name(chip->set),
+           (unsigned)chip->set, chip->program_len, chip->outside_len);
+    show_programs(chip, "around PC", pc & 0xFFF0u, 32);
+    show_programs(chip, "at PC", pc, 1);
+    show_programs(chip, "at the next PC", next, 1);
+    show_programs(chip, "table byte in PC's page", (pc & 0xF00u) | a, 1);
+    show_programs(chip, "table byte in the next PC's page", (next & 0xF00u) | a, 1);
+    show_programs(chip, "table byte in page 3", (pc & 0x800u) | 0x300u | a, 1);
     print_state("state before", chip->state, chip->state_len);
     print_bytes("RAM before", chip->ram, chip->ram_len);
 }

@@ -14,6 +14,14 @@ static uint8_t mode_of(uint8_t code)
     return code == HALT ? SECOND_MODE_HALTED : SECOND_MODE_STOPPED;
 }
 
+/* By chance all is outside: EA is high in every sample. */
+static bool ea;
+
+static uint8_t *memory(void)
+{
+    return ea ? chip.outside : chip.program;
+}
+
 /*
  * A machine that runs, with NOPs from PC on; no call is allowed or wanted, nothing is counted.
  * What follows PC is in every program, and in one page with it.
@@ -21,8 +29,9 @@ static uint8_t mode_of(uint8_t code)
 static void plain_chip(void)
 {
     random_chip(SECOND_NEC);
+    ea = chip.outside_len != 0 && one_in(2);
     set_pc(&chip, (uint16_t)(below(4) << 8 | (0x10 + below(0xE0))));
-    memset(chip.program + pc_of(&chip), NOP, 16);
+    memset(memory() + pc_of(&chip), NOP, 16);
     chip.state[BYTE_MODE] = SECOND_MODE_RUNS;
     chip.state[BYTE_COUNTING] = SECOND_STOPPED;
     chip.state[BYTE_REQUEST] = 0;
@@ -33,51 +42,12 @@ static void plain_chip(void)
 
 static void put_program(size_t i, uint8_t byte)
 {
-    chip.program[pc_of(&chip) + i] = byte;
-}
-
-/* Samples with INT and RESET high; T1 and the ports at random. */
-static void plain_samples(size_t len)
-{
-    samples_len = len;
-    for (size_t i = 0; i < len; i++)
-        samples[i] = (random_word() & SECOND_PIN_IDLE) | SECOND_PIN_INT | SECOND_PIN_RESET;
-}
-
-static void set_low(uint32_t pin, size_t from, size_t len)
-{
-    for (size_t i = from; i < from + len && i < samples_len; i++)
-        samples[i] &= ~pin;
+    memory()[pc_of(&chip) + i] = byte;
 }
 
 static void set_t1(size_t i, bool high)
 {
     samples[i] = high ? samples[i] | SECOND_PIN_T1 : samples[i] & ~SECOND_PIN_T1;
-}
-
-static uint16_t pc_left(void)
-{
-    return (uint16_t)(lent.state.at[BYTE_PC_LOW] | lent.state.at[BYTE_PC_HIGH] << 8);
-}
-
-static void expect_totals(uint64_t number, uint64_t used, uint64_t waits)
-{
-    if (second.number != number)
-        differ("not the number %u", (unsigned)number);
-    if (second.samples != used || second.cycles != used - waits)
-        differ("not %u samples with %u waits", (unsigned)used, (unsigned)waits);
-}
-
-static void expect_byte(enum state_byte byte, uint8_t expected)
-{
-    if (lent.state.at[byte] != expected)
-        differ("%s is not %02X", state_byte_names[byte], expected);
-}
-
-static void expect_pc(uint16_t expected)
-{
-    if (pc_left() != expected)
-        differ("PC is not %03X", expected);
 }
 
 /* A run wholly of waits leaves all as it was. */
@@ -87,7 +57,7 @@ static void wait_case(uint8_t mode)
     for (uint32_t len = 2; len < 100 && agrees(); len++) {
         random_chip(SECOND_NEC);
         chip.state[BYTE_MODE] = mode;
-        plain_samples(len);
+        plain_samples(ea, len);
         check_somehow();
         expect_totals(0, len - 1, len - 1);
         if (memcmp(lent.state.at, chip.state, STATE_BYTES) != 0)
@@ -126,7 +96,7 @@ static void set_up(const struct halt *halt)
     chip.state[BYTE_EXTERNAL_ENABLED] = halt->external_enabled;
     chip.state[BYTE_TIMER_ENABLED] = halt->timer_enabled;
 
-    plain_samples(1 + halt->waits + 1 + halt->cycles + 2);
+    plain_samples(ea, 1 + halt->waits + 1 + halt->cycles + 2);
     set_low(SECOND_PIN_INT, 1 + halt->waits, halt->pulse);
     /* One fall that the counter counts, and no other. */
     set_t1(0, false);
@@ -215,7 +185,7 @@ static void again_case(uint8_t code)
         plain_chip();
         put_program(0, one_in(2) ? HALT : STOP);
         put_program(1, code);
-        plain_samples(4);
+        plain_samples(ea, 4);
         set_low(SECOND_PIN_INT, 1, pulse);
         check_somehow();
         expect_totals(0, 3, 1);
@@ -235,7 +205,7 @@ static void not_entered_case(uint8_t code)
         chip.state[BYTE_EXTERNAL_ENABLED] = i & 1;
         if (i & 2)
             chip.state[BYTE_MODE] = SECOND_MODE_RELEASED;
-        plain_samples(4);
+        plain_samples(ea, 4);
         set_low(SECOND_PIN_INT, 0, 1 + (i >> 2 & 3));
         check_somehow();
         expect_totals(0, 3, 0);
@@ -264,7 +234,7 @@ static void fall_case(uint8_t code)
         chip.state[BYTE_COUNTING] = SECOND_COUNTER;
         chip.state[BYTE_T] = t;
         chip.state[BYTE_LAST_T1] = before;
-        plain_samples(1 + waits + 2);
+        plain_samples(ea, 1 + waits + 2);
         set_low(SECOND_PIN_INT, waits, 1);
         set_t1(0, at_halt);
         for (unsigned wait = 0; wait < waits; wait++)
@@ -289,8 +259,8 @@ static void reset_case(uint8_t code, bool released)
 
         plain_chip();
         put_program(0, code);
-        chip.program[0] = NOP;
-        plain_samples(1 + waits + 3);
+        memory()[0] = NOP;
+        plain_samples(ea, 1 + waits + 3);
         set_low(SECOND_PIN_INT, waits, released);
         set_low(SECOND_PIN_RESET, 1 + waits, 1);
         if (one_in(2)) /* RESET goes first */
@@ -312,22 +282,25 @@ static void refuse_code(void)
 
 static void refuse_second_byte(void)
 {
+    ea = false;
+    set_low(SECOND_PIN_EA, 0, samples_len);
     chip.program_len = 1024;
+    chip.outside_len = 0;
     set_pc(&chip, 0x3FE);
     put_program(1, MOV_A_DATA);
 }
 
 static void refuse_sample(void)
 {
-    samples[3] |= UINT32_C(1) << (28 + below(4));
+    samples[3] |= UINT32_C(1) << (29 + below(3));
 }
 
 static void go_on(void)
 {
     memcpy(chip.state, lent.state.at, STATE_BYTES);
     memcpy(chip.ram, lent.ram.at, chip.ram_len);
-    put_code(&chip, NOP);
-    plain_samples(3);
+    put_program(0, NOP);
+    plain_samples(ea, 3);
     set_low(SECOND_PIN_INT, 0, 3);
 }
 
@@ -339,7 +312,7 @@ static void refused_case(uint8_t number, void (*refuse)(void))
 
         plain_chip();
         chip.state[BYTE_EXTERNAL_ENABLED] = 1;
-        plain_samples(4);
+        plain_samples(ea, 4);
         set_low(SECOND_PIN_INT, 1, 3);
         refuse();
         put_program(0, code);

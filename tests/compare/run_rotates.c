@@ -1,7 +1,7 @@
 /*
  * Strings of rotates, and the strings that may stand instead of them: the table of
- * docs/ROTATES.md, for every value of A and C, in chips that are random otherwise. Neither a
- * reset nor an interrupt call comes between.
+ * docs/ROTATES.md, for every value of A and C, in chips that are random otherwise, inside or all
+ * outside with EA high. Neither a reset nor an interrupt call comes between.
  */
 #include "runs.h"
 
@@ -27,6 +27,8 @@ static const struct law laws[] = {
     {"RRC and RLC, or nothing", 2, {RRC, RLC}, 0, {NOP}},
     {"nine RLC, or nothing", 9, {RLC, RLC, RLC, RLC, RLC, RLC, RLC, RLC, RLC}, 0, {NOP}},
     {"nine RRC, or nothing", 9, {RRC, RRC, RRC, RRC, RRC, RRC, RRC, RRC, RRC}, 0, {NOP}}};
+
+static bool ea;
 
 /* Where byte i of a string from PC on stands. */
 static uint16_t place(size_t i)
@@ -56,11 +58,11 @@ static void random_start(unsigned a, unsigned c)
     random_chip(sets[below(LENGTH(sets))]);
     chip.state[BYTE_MODE] = SECOND_MODE_RUNS;
     random_pc();
+    ea = chip.outside_len != 0 && one_in(2);
     no_interrupt_calls();
     chip.state[BYTE_A] = (uint8_t)a;
     chip.state[BYTE_PSW] = (uint8_t)((chip.state[BYTE_PSW] & 0x7F) | c << 7);
-    for (size_t i = 0; i <= STRING_MOST; i++)
-        samples[i] = (random_word() & SECOND_PIN_IDLE) | SECOND_PIN_RESET | SECOND_PIN_INT;
+    plain_samples(ea, STRING_MOST + 1);
 }
 
 /* What a string has left. */
@@ -75,7 +77,7 @@ static struct left run_string(const uint8_t *bytes, size_t len)
     struct left left = {0};
 
     for (size_t i = 0; i < len; i++)
-        chip.program[place(i)] = bytes[i];
+        (ea ? chip.outside : chip.program)[place(i)] = bytes[i];
     samples_len = len + 1;
     check_run();
     if (second.number != 0 || second.cycles != len)

@@ -1,8 +1,8 @@
 /*
  * Runs: mcs48_run against second_run over random programs and lists of samples. Compared are
  * the number, the totals, the state and RAM; and a run with the same run cut in pieces, and
- * with its steps one at a time. In run_halts.c, runs over HALT and STOP; in run_rotates.c,
- * strings that may stand for each other.
+ * with its steps one at a time. In run_halts.c, runs over HALT and STOP; in run_outside.c, runs
+ * over two memories; in run_rotates.c, strings that may stand for each other.
  *
  * --count N: runs in each case.
  */
@@ -82,16 +82,16 @@ void check_run(void)
     uint64_t *sums = lend(&lent_totals, totals, totals_len * sizeof *totals);
 
     proved = second = (struct result){0};
-    proved.number =
-        mcs48_run(chip.set, lent.program.at, chip.program_len, lent.ram.at, chip.ram_len,
-                  lent.state.at, chip.state_len, list, samples_len, sums, totals_len);
+    proved.number = mcs48_run(chip.set, lent.program.at, chip.program_len, lent.outside_at,
+                              chip.outside_len, lent.ram.at, chip.ram_len, lent.state.at,
+                              chip.state_len, list, samples_len, sums, totals_len);
     if (totals_len >= 2) {
         proved.samples = sums[0];
         proved.cycles = sums[1];
     }
     struct second_totals answer =
-        second_run(chip.set, chip.program, chip.program_len, lent.second_ram, chip.ram_len,
-                   &lent.second_state, samples, samples_len);
+        second_run(chip.set, chip.program, chip.program_len, chip.outside, chip.outside_len,
+                   lent.second_ram, chip.ram_len, &lent.second_state, samples, samples_len);
     second = (struct result){answer.number, answer.samples, answer.cycles};
     mode_after = lent.second_state.mode;
 
@@ -109,10 +109,13 @@ static struct chip part; /* the chip after the parts done so far */
 static void begin_parts(void)
 {
     memcpy(part.program, chip.program, chip.program_len);
+    memcpy(part.outside, chip.outside, chip.outside_len);
     memcpy(part.ram, chip.ram, chip.ram_len);
     memcpy(part.state, chip.state, chip.state_len);
     part.set = chip.set;
     part.program_len = chip.program_len;
+    part.outside_len = chip.outside_len;
+    part.kept = false;
     part.ram_len = chip.ram_len;
     part.state_len = chip.state_len;
     proved = (struct result){0};
@@ -122,6 +125,7 @@ static void take_back(void)
 {
     memcpy(part.ram, lent.ram.at, part.ram_len);
     memcpy(part.state, lent.state.at, part.state_len);
+    part.kept = true;
 }
 
 static void run_part(size_t len)
@@ -129,10 +133,10 @@ static void run_part(size_t len)
     uint64_t sums[2] = {0, 0};
 
     lend_chip(&lent, &part);
-    const uint32_t *list =
-        lend(&lent_samples, samples + proved.samples, len * sizeof *samples);
-    proved.number = mcs48_run(part.set, lent.program.at, part.program_len, lent.ram.at,
-                              part.ram_len, lent.state.at, part.state_len, list, len, sums, 2);
+    const uint32_t *list = lend(&lent_samples, samples + proved.samples, len * sizeof *samples);
+    proved.number =
+        mcs48_run(part.set, lent.program.at, part.program_len, lent.outside_at, part.outside_len,
+                  lent.ram.at, part.ram_len, lent.state.at, part.state_len, list, len, sums, 2);
     proved.samples += sums[0];
     proved.cycles += sums[1];
     take_back();
@@ -143,8 +147,9 @@ static void step_part(void)
     const uint32_t *pair = samples + proved.samples;
 
     lend_chip(&lent, &part);
-    uint64_t answer = mcs48_step(part.set, lent.program.at, part.program_len, lent.ram.at,
-                                 part.ram_len, lent.state.at, part.state_len, pair[0], pair[1]);
+    uint64_t answer =
+        mcs48_step(part.set, lent.program.at, part.program_len, lent.outside_at, part.outside_len,
+                   lent.ram.at, part.ram_len, lent.state.at, part.state_len, pair[0], pair[1]);
     proved.number = mcs48_number(answer);
     proved.samples += mcs48_samples(answer);
     proved.cycles += mcs48_cycles(answer);
@@ -164,6 +169,8 @@ static void compare_parts(const struct second_state *state, const uint8_t *ram)
     if (proved.number != second.number || proved.samples != second.samples ||
         proved.cycles != second.cycles)
         differ("the parts don't add up to the run");
+    came_back(&lent.program, "the program", chip.program);
+    came_back(&lent.outside, "the second program", chip.outside);
 }
 
 static void cut_run(void)
@@ -227,33 +234,54 @@ static uint8_t defined_code(void)
     return code;
 }
 
-/* A code after which a program of that size is hardly left by a jump. */
-static uint8_t staying_code(size_t program_len)
+/* A code after which memory up to that address is hardly left by a jump. */
+static uint8_t staying_code(size_t end)
 {
     uint8_t code = defined_code();
 
-    if ((code & 0x0F) == 0x04 && program_len == 1024)
+    if ((code & 0x0F) == 0x04 && end == 1024)
         code &= 0x7F; /* JMP and CALL to the lower four pages */
-    if (code == 0xF5 && program_len < 4096)
+    if (code == 0xF5 && end < 4096)
         code = 0xE5; /* SEL MB0 for SEL MB1 */
     if (chip.set == SECOND_NEC && one_in(16))
         code = one_in(2) ? 0x01 : 0x82; /* HALT, STOP */
     return code;
 }
 
-/* A program of defined codes, and a stack that leads back into it: it runs for long. */
+static void enduring_codes(uint8_t *program, size_t len, size_t end)
+{
+    for (size_t i = 0; i < len; i++)
+        program[i] = staying_code(end);
+}
+
+/* Programs of defined codes, and a stack that leads back into them: they run for long. */
 static void enduring_program(void)
 {
-    for (size_t i = 0; i < chip.program_len; i++)
-        chip.program[i] = staying_code(chip.program_len);
+    size_t end = chip.outside_len != 0 ? chip.outside_len : chip.program_len;
+
+    enduring_codes(chip.program, chip.program_len, end);
+    enduring_codes(chip.outside, chip.outside_len, end);
     for (size_t i = 9; i < 24; i += 2)
-        chip.ram[i] = (uint8_t)((chip.ram[i] & 0xF0) | below((uint32_t)chip.program_len / 256));
-    set_pc(&chip, pc_of(&chip) % (uint16_t)chip.program_len);
-    if (chip.program_len < 4096)
+        chip.ram[i] = (uint8_t)((chip.ram[i] & 0xF0) | below((uint32_t)end / 256));
+    set_pc(&chip, pc_of(&chip) % (uint16_t)end);
+    if (end < 4096)
         chip.state[BYTE_DBF] = 0;
 }
 
-/* Each list has its own mood: how often RESET and INT are low, and whether a bit is set. */
+/* EA high in none, all, half or few of the samples; without a second program it ends the run. */
+static void random_ea(void)
+{
+    uint32_t rate = chip.outside_len == 0 ? 1u << (6 + below(5)) : 1u << below(6);
+
+    if (one_in(chip.outside_len == 0 ? 2 : 4))
+        return;
+    for (size_t i = 0; i < samples_len; i++) {
+        if (one_in(rate))
+            samples[i] |= SECOND_PIN_EA;
+    }
+}
+
+/* Each list has its own mood: how often RESET, INT and EA act, and whether a bit is set. */
 static void random_samples(size_t len)
 {
     uint32_t reset = 1u << below(16);
@@ -268,19 +296,58 @@ static void random_samples(size_t len)
         if (reset > 8 && one_in(reset))
             samples[i] &= ~SECOND_PIN_RESET;
     }
+    random_ea();
     if (len > 0 && one_in(4)) {
         size_t at = one_in(4) ? len - 1 : below((uint32_t)len);
-        samples[at] |= UINT32_C(1) << (28 + below(4));
+        samples[at] |= UINT32_C(1) << (29 + below(3));
     }
 }
 
 void random_chip(uint32_t set)
 {
     chip.set = set;
+    random_programs(&chip);
     random_sizes(&chip);
-    random_program(&chip);
     random_state(&chip);
     random_ram(&chip);
+}
+
+void plain_samples(bool ea, size_t len)
+{
+    samples_len = len;
+    for (size_t i = 0; i < len; i++) {
+        samples[i] = (random_word() & SECOND_PIN_IDLE) | SECOND_PIN_INT | SECOND_PIN_RESET;
+        if (ea)
+            samples[i] |= SECOND_PIN_EA;
+    }
+}
+
+void set_low(uint32_t pin, size_t from, size_t len)
+{
+    for (size_t i = from; i < from + len && i < samples_len; i++)
+        samples[i] &= ~pin;
+}
+
+/* What the document says that a run leaves. */
+
+void expect_totals(uint64_t number, uint64_t used, uint64_t waits)
+{
+    if (second.number != number)
+        differ("not the number %u", (unsigned)number);
+    if (second.samples != used || second.cycles != used - waits)
+        differ("not %u samples with %u waits", (unsigned)used, (unsigned)waits);
+}
+
+void expect_byte(enum state_byte byte, uint8_t expected)
+{
+    if (lent.state.at[byte] != expected)
+        differ("%s is not %02X", state_byte_names[byte], expected);
+}
+
+void expect_pc(uint16_t expected)
+{
+    expect_byte(BYTE_PC_LOW, (uint8_t)expected);
+    expect_byte(BYTE_PC_HIGH, (uint8_t)(expected >> 8));
 }
 
 static void random_run(uint32_t set, bool enduring, size_t len)
@@ -404,6 +471,13 @@ static void bad_program_length(void)
     chip.program_len = lengths[below(LENGTH(lengths))];
 }
 
+static void bad_outside_length(void)
+{
+    static const size_t lengths[] = {1, 1023, 1024, 2048, 4095, 4097, 0x10000, 0x10000 + 4096};
+
+    chip.outside_len = lengths[below(LENGTH(lengths))];
+}
+
 static void bad_ram_length(void)
 {
     static const size_t lengths[] = {0, 1, 63, 65, 127, 255, 257, 1024, 0x10000 + 64};
@@ -444,11 +518,18 @@ static void bad_state_length(void)
 
 static void bad_in_two_ways(void)
 {
-    static void (*const ways[])(void) = {bad_program_length, bad_ram_length, bad_state,
-                                         bad_state_length, bad_mode_of_intel};
+    static void (*const ways[])(void) = {bad_program_length, bad_outside_length, bad_ram_length,
+                                         bad_state,          bad_state_length,   bad_mode_of_intel};
 
     ways[below(LENGTH(ways))]();
     ways[below(LENGTH(ways))]();
+}
+
+/* 1 goes before 2 and 3. */
+static void bad_outside_and_more(void)
+{
+    bad_in_two_ways();
+    bad_outside_length();
 }
 
 /* 25 goes before all others. */
@@ -477,11 +558,13 @@ static void refused_case(const char *name, void (*spoil)(void), uint8_t least, u
 static void refused_cases(void)
 {
     refused_case("program length not allowed", bad_program_length, 1, 1);
+    refused_case("second program's length not allowed", bad_outside_length, 1, 1);
     refused_case("RAM length not allowed", bad_ram_length, 2, 2);
     refused_case("state outside its sizes", bad_state, 3, 3);
     refused_case("state length not allowed", bad_state_length, 3, 3);
     refused_case("Intel, and it doesn't run", bad_mode_of_intel, 3, 3);
     refused_case("two of these", bad_in_two_ways, 1, 3);
+    refused_case("second program's length and two of these", bad_outside_and_more, 1, 1);
     refused_case("set neither Intel nor NEC", bad_set, 25, 25);
     refused_case("such a set and two of these", bad_in_many_ways, 25, 25);
 }
@@ -511,6 +594,7 @@ int main(int argc, char **argv)
     run_cases(SECOND_NEC);
     refused_cases();
     halt_cases();
+    outside_cases();
     rotate_cases();
     meeting_case();
     return finish();

@@ -4,19 +4,21 @@
  */
 #include "steps.h"
 
-/* Every code, from every size of program and RAM. */
+/* Every code, from every size of program and RAM, with and without a second program and EA. */
 static void pc_case(uint32_t set, uint16_t pc)
 {
     begin_case("%s, PC %03X", set_name(set), pc);
-    for (unsigned i = 0; i < 256 * 9 && agrees(); i++) {
+    for (unsigned i = 0; i < 256 * 36 && agrees(); i++) {
         random_step(set, i);
         quiet_pins();
         wake();
         step.chip.program_len = program_sizes[i / 256 % 3];
-        step.chip.ram_len = ram_sizes[i / 256 / 3];
+        step.chip.ram_len = ram_sizes[i / 256 / 3 % 3];
+        step.chip.outside_len = i / 256 / 9 & 1 ? OUTSIDE : 0;
+        step.first = with_pin(step.first, SECOND_PIN_EA, i / 256 / 18);
         step.chip.state[BYTE_REQUEST] = 0;
         set_pc(&step.chip, pc);
-        put_code(&step.chip, (uint8_t)i);
+        put_code((uint8_t)i);
         check_step();
     }
     end_case();
@@ -46,7 +48,7 @@ static void even_odds(uint8_t code)
         *register_of(&step.chip, code & 7) = 1;
 }
 
-/* PAGE_STEPS tries take each page, place and pairing once. */
+/* PAGE_STEPS tries take each page, place and pairing once, every other time in one memory. */
 static void page_step(uint32_t set, uint64_t tries, uint8_t code)
 {
     static const uint8_t places[] = {0xFE, 0xFF, 0x00};
@@ -55,8 +57,12 @@ static void page_step(uint32_t set, uint64_t tries, uint8_t code)
     set_pc(&step.chip, (uint16_t)(tries % 16 << 8 | places[tries / 16 % 3]));
     step.chip.program_len = program_sizes[tries / 48 % 3];
     step.chip.ram_len = ram_sizes[tries / 144 % 3];
-    put_code(&step.chip, code);
-    put_operand(&step.chip, (uint8_t)random_word());
+    if (tries / PAGE_STEPS % 2) {
+        step.chip.outside_len = 0;
+        step.first &= ~SECOND_PIN_EA;
+    }
+    put_code(code);
+    put_operand((uint8_t)random_word());
     even_odds(code);
 }
 
@@ -64,7 +70,7 @@ static void page_step(uint32_t set, uint64_t tries, uint8_t code)
 struct page_ends {
     uint64_t reached;
     uint64_t taken;
-    uint64_t past_end; /* number 5 at 3FF of 1,024 */
+    uint64_t past_end; /* number 5 at 3FF of 1,024, for another byte than the first */
 };
 
 static void note_page_end(struct page_ends *met, struct second_outcome outcome)
@@ -75,13 +81,13 @@ static void note_page_end(struct page_ends *met, struct second_outcome outcome)
         return;
     met->reached += reached(outcome);
     met->taken += reached(outcome) && jump_taken();
-    met->past_end +=
-        outcome.number == SECOND_PAST_END && pc == 0x3FF && step.chip.program_len == 1024;
+    met->past_end += outcome.number == SECOND_PAST_END && pc == 0x3FF && !is_outside(pc) &&
+                     step.chip.program_len == 1024;
 }
 
 /*
  * At 3FF of 1,024 a conditional jump's second byte is past the end, and so is MOVP's table byte;
- * JMPP and MOVP3 read page 3.
+ * JMPP and MOVP3 read page 3. There is not always a second program to have them.
  */
 static void check_page_ends(const struct page_ends *met, uint8_t code)
 {
@@ -128,7 +134,7 @@ static void plain_step(uint32_t set, uint64_t tries)
     quiet_pins();
     step.chip.state[BYTE_MODE] = SECOND_MODE_RUNS;
     set_pc(&step.chip, pc_of(&step.chip) % 1024);
-    put_code(&step.chip, (uint8_t)tries);
+    put_code((uint8_t)tries);
 }
 
 /* Every code under all settings of the flags that decide about a timer request. */
@@ -204,7 +210,7 @@ static void stack_case(uint32_t set, unsigned sp)
     for (unsigned i = 0; i < 1000 && agrees(); i++) {
         random_step(set, i);
         *psw = (uint8_t)((*psw & 0xF8) | sp);
-        put_code(&step.chip, codes[below(LENGTH(codes))]);
+        put_code(codes[below(LENGTH(codes))]);
         check_step();
     }
     end_case();
@@ -221,11 +227,12 @@ static void accumulator_case(uint32_t set, uint8_t code, unsigned operands)
     wake();
     state[BYTE_REQUEST] = 0;
     set_pc(&step.chip, 0x200);
-    put_code(&step.chip, code);
+    put_code(code);
     for (unsigned i = 0; i < 1024 * operands && agrees(); i++) {
+        step.chip.kept = i > 0;
         state[BYTE_A] = (uint8_t)i;
         state[BYTE_PSW] = (uint8_t)((state[BYTE_PSW] & 0x3F) | (i >> 8 & 3) << 6);
-        put_operand(&step.chip, (uint8_t)(i >> 10));
+        put_operand((uint8_t)(i >> 10));
         if (check_step().number != SECOND_ACCEPTED)
             differ("refused");
     }

@@ -11,7 +11,7 @@ static bool is_int_low(void)
     return !(step.first & SECOND_PIN_INT);
 }
 
-/* A step of a NEC machine in a mode, without a reset or one of bits 28 to 31. */
+/* A step of a NEC machine in a mode, without a reset or one of bits 29 to 31. */
 static void step_in(uint8_t mode, uint64_t tries)
 {
     random_step(SECOND_NEC, tries);
@@ -132,7 +132,7 @@ static void enter_case(uint8_t code, uint8_t mode)
         set_bits(i);
         set_counter(i / 256 % 3);
         set_pc(&step.chip, (uint16_t)(below(4) << 8 | below(255)));
-        put_code(&step.chip, code);
+        put_code(code);
         entered(expected, mode);
 
         struct second_outcome outcome = check_step();
@@ -167,7 +167,7 @@ static void released_case(void)
         state[BYTE_TIMER_ENABLED] = i >> 9 & 1;
         state[BYTE_REQUEST] = i >> 10 & 1;
         state[BYTE_IN_SERVICE] = 0;
-        put_code(&step.chip, (uint8_t)i);
+        put_code((uint8_t)i);
 
         struct second_outcome outcome = check_step();
         bool accepted = outcome.number == SECOND_ACCEPTED;
@@ -187,18 +187,23 @@ static void undefined_code(void)
         code = (uint8_t)random_word();
     } while (is_defined(SECOND_NEC, code));
     set_pc(&step.chip, pc_of(&step.chip) % 1024);
-    put_code(&step.chip, code);
+    put_code(code);
 }
 
-/* Of the first byte, or of the second of MOV A,#data at 3FF of 1,024. */
+/*
+ * With no second program: of the first byte, by chance because EA is high, or of the second of
+ * MOV A,#data at 3FF of 1,024.
+ */
 static void past_end(void)
 {
+    step.chip.outside_len = 0;
+    step.first = with_pin(step.first, SECOND_PIN_EA, one_in(4));
     step.chip.program_len = program_sizes[below(2)];
     set_pc(&step.chip, (uint16_t)(2048 + below(2048)));
     if (one_in(2)) {
         step.chip.program_len = 1024;
         set_pc(&step.chip, 0x3FF);
-        put_code(&step.chip, 0x23);
+        put_code(0x23);
     }
 }
 
@@ -206,7 +211,7 @@ static void sample_bit(void)
 {
     uint32_t *sample = one_in(2) ? &step.first : &step.second;
 
-    *sample |= UINT32_C(1) << (28 + below(4));
+    *sample |= UINT32_C(1) << (29 + below(3));
 }
 
 /* INT may be low and a request stored: a call, which fetches nothing, would not get 4 or 5. */

@@ -1,5 +1,5 @@
 /*
- * Steps that are refused for what they are lent. Resets, interrupts, bits 28 to 31 and a
+ * Steps that are refused for what they are lent. Resets, interrupts, bits 29 to 31 and a
  * second reason come with them by chance, which shows the order of the numbers.
  */
 #include "steps.h"
@@ -137,7 +137,29 @@ static void program_length_case(size_t len)
             spoil(BYTE_DIVIDER);
         if (one_in(4))
             step.chip.ram_len = lengths[below(LENGTH(lengths))];
+        if (one_in(4))
+            step.chip.outside_len = lengths[below(LENGTH(lengths))];
         check_step();
+    }
+    end_case();
+}
+
+/* 1 for another than 0 and 4,096, before 2, 3 and 6; the first program's length is good. */
+static void outside_length_case(size_t len)
+{
+    begin_case("second program of %zu bytes", len);
+    for (uint64_t i = 0; i < count() / 10 && agrees(); i++) {
+        refusable_step(i);
+        step.chip.outside_len = len;
+        if (one_in(4))
+            spoil(BYTE_F1);
+        if (one_in(4))
+            step.chip.state_len = below(STATE_ROOM + 1);
+        if (one_in(4))
+            step.chip.ram_len = lengths[below(LENGTH(lengths))];
+        bool refused = check_step().number == SECOND_PROGRAM_LENGTH;
+        if (refused != (len != 0 && len != OUTSIDE))
+            differ("%s", refused ? "1" : "not 1");
     }
     end_case();
 }
@@ -165,6 +187,8 @@ static void unknown_set_case(void)
         if (one_in(4))
             step.chip.program_len = lengths[below(LENGTH(lengths))];
         if (one_in(4))
+            step.chip.outside_len = lengths[below(LENGTH(lengths))];
+        if (one_in(4))
             step.chip.ram_len = lengths[below(LENGTH(lengths))];
         if (one_in(4))
             spoil(BYTE_TF);
@@ -174,6 +198,26 @@ static void unknown_set_case(void)
             differ("not 25");
     }
     end_case();
+}
+
+/* A step of which all is good but the length of what is `far`. */
+struct far_step {
+    const uint8_t *program;
+    size_t program_len;
+    const uint8_t *outside;
+    size_t outside_len;
+    uint8_t *ram;
+    size_t ram_len;
+};
+
+static void check_far(struct far_step far, uint64_t number, const char *name)
+{
+    uint64_t answer = mcs48_step(step.chip.set, far.program, far.program_len, far.outside,
+                                 far.outside_len, far.ram, far.ram_len, lent.state.at,
+                                 step.chip.state_len, step.first, step.second);
+
+    if (answer != number)
+        differ("a %s of 4 GiB and more is not refused", name);
 }
 
 /* Lengths that are good in their low 32 bits. To write to such a program or RAM is a fault. */
@@ -187,14 +231,21 @@ static void huge_case(uint32_t set)
     random_step(set, 0);
     quiet_pins();
     lend_chip(&lent, chip);
+    const struct far_step good = {lent.program.at,   chip->program_len, lent.outside_at,
+                                  chip->outside_len, lent.ram.at,       chip->ram_len};
     for (size_t i = 0; i < 3; i++) {
-        if (mcs48_step(set, far, huge + program_sizes[i], lent.ram.at, chip->ram_len, lent.state.at,
-                       chip->state_len, step.first, step.second) != SECOND_PROGRAM_LENGTH)
-            differ("a program of 4 GiB and %zu bytes is not refused", program_sizes[i]);
-        if (mcs48_step(set, lent.program.at, chip->program_len, (uint8_t *)(uintptr_t)far,
-                       huge + ram_sizes[i], lent.state.at, chip->state_len, step.first,
-                       step.second) != SECOND_RAM_LENGTH)
-            differ("a RAM of 4 GiB and %zu bytes is not refused", ram_sizes[i]);
+        struct far_step program = good;
+        struct far_step outside = good;
+        struct far_step ram = good;
+
+        program.program = outside.outside = far;
+        ram.ram = (uint8_t *)(uintptr_t)far;
+        program.program_len = huge + program_sizes[i];
+        outside.outside_len = huge + (i == 0 ? 0 : program_sizes[i]);
+        ram.ram_len = huge + ram_sizes[i];
+        check_far(program, SECOND_PROGRAM_LENGTH, "program");
+        check_far(outside, SECOND_PROGRAM_LENGTH, "second program");
+        check_far(ram, SECOND_RAM_LENGTH, "RAM");
     }
     compare_chips(&lent, chip);
     end_case();
@@ -207,6 +258,9 @@ void refusal_cases(void)
         program_length_case(lengths[i]);
     program_length_case(0x10000 + 1024);
     program_length_case(0x10000 + 4096);
+    for (size_t i = 0; i < LENGTH(lengths); i++)
+        outside_length_case(lengths[i]);
+    outside_length_case(0x10000 + 4096);
     for (size_t i = 0; i < LENGTH(lengths); i++)
         ram_length_case(lengths[i]);
     unknown_set_case();

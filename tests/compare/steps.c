@@ -3,8 +3,8 @@
  * the header's functions take out of it, the 24 bytes of the state, all of RAM, and that a
  * refused call has touched nothing.
  *
- * --count N: how often each code of each set is carried out, and each that depends on a page as
- * often again at the end of one. A tenth of it is tried of each refusal.
+ * --count N: how often each code of each set is carried out from inside and from outside, and each
+ * that depends on a page as often again at the end of one. A tenth of it is tried of each refusal.
  */
 #include "steps.h"
 
@@ -22,11 +22,11 @@ static uint64_t second_answer;
 static void show_answer(const char *label, uint64_t answer)
 {
     printf("  %s: number %u, cycles %u, samples %u, event %u, address %02X, data %02X, "
-           "all %016llX\n",
+           "bytes from outside %u, all %016llX\n",
            label, (unsigned)(answer & 0xFF), (unsigned)(answer >> 8 & 0xFF),
            (unsigned)(answer >> 48 & 0xFF), (unsigned)(answer >> 16 & 0xFF),
            (unsigned)(answer >> 24 & 0xFF), (unsigned)(answer >> 32 & 0xFF),
-           (unsigned long long)answer);
+           (unsigned)(answer >> 40 & 0xFF), (unsigned long long)answer);
 }
 
 static void show(void)
@@ -70,6 +70,11 @@ enum met {
     STOP_NOT_ENTERED,
     RELEASED_NUMBER_4,
     RELEASED_NUMBER_6 = RELEASED_NUMBER_4 + 2,
+    ONE_BYTE_FROM_OUTSIDE,
+    TWO_BYTES_FROM_OUTSIDE,
+    NONE_WITH_EA,
+    NUMBER_4_FROM_OUTSIDE,
+    NUMBER_5_WITH_EA,
     MEETINGS
 };
 
@@ -112,6 +117,11 @@ static const char *const meeting_names[MEETINGS] = {
     "just released, number 4",
     "5",
     "6",
+    "one byte from outside",
+    "two",
+    "none, though EA is high",
+    "number 4 from outside",
+    "number 5 with EA high for a byte that is inside",
 };
 
 static uint64_t meetings[MEETINGS];
@@ -173,9 +183,17 @@ static void note_overflow(void)
         counter && (step.first & SECOND_PIN_T1) && !(step.second & SECOND_PIN_T1);
 }
 
-static uint8_t code_of_step(void)
+/* Where the byte at an address is, if it is anywhere. */
+static uint8_t *byte_of_step(uint16_t address)
 {
-    return step.chip.program[pc_of(&step.chip)];
+    return fetched(&step.chip, is_high(SECOND_PIN_EA), address);
+}
+
+uint8_t code_of_step(void)
+{
+    const uint8_t *code = byte_of_step(pc_of(&step.chip));
+
+    return code == NULL ? 0 : *code;
 }
 
 static void note_mode(enum act act)
@@ -256,7 +274,10 @@ static void note_jump(void)
 /* MOVP has no second byte: where it stands in the program, 5 is for its table byte. */
 static void note_past_end(void)
 {
-    meetings[TABLE_PAST_END] += pc_of(&step.chip) < step.chip.program_len && code_of_step() == 0xA3;
+    uint16_t pc = pc_of(&step.chip);
+
+    meetings[TABLE_PAST_END] += byte_of_step(pc) != NULL && code_of_step() == 0xA3;
+    meetings[NUMBER_5_WITH_EA] += is_high(SECOND_PIN_EA) && pc < step.chip.program_len;
 }
 
 static void note_refusal(uint8_t number)
@@ -266,6 +287,8 @@ static void note_refusal(uint8_t number)
     if (number <= SECOND_SAMPLE_BITS)
         meetings[NUMBER_1 + number - 1]++;
     meetings[NUMBER_25] += number == SECOND_SET_UNKNOWN;
+    meetings[NUMBER_4_FROM_OUTSIDE] +=
+        number == SECOND_UNDEFINED_CODE && is_outside(pc_of(&step.chip));
     if (released && number >= SECOND_UNDEFINED_CODE && number <= SECOND_SAMPLE_BITS)
         meetings[RELEASED_NUMBER_4 + number - SECOND_UNDEFINED_CODE]++;
     if (number == SECOND_PAST_END)
@@ -284,6 +307,9 @@ static void note(struct second_outcome outcome)
         note_jump();
         note_halt();
     }
+    meetings[ONE_BYTE_FROM_OUTSIDE] += outcome.outside == 1;
+    meetings[TWO_BYTES_FROM_OUTSIDE] += outcome.outside == 2;
+    meetings[NONE_WITH_EA] += outcome.outside == 0 && is_high(SECOND_PIN_EA);
     if (outcome.cycles == 2)
         note_overflow();
     if (outcome.event != 0 && outcome.event <= SECOND_ANLD)
@@ -308,20 +334,53 @@ static void meeting_case(void)
 
 void random_step(uint32_t set, uint64_t tries)
 {
-    if (tries % 64 == 0)
-        random_program(&step.chip);
+    static size_t program_len; /* of the programs that stay, whatever a case has lent of them */
+    static size_t outside_len;
+
+    step.chip.kept = tries % 64 != 0;
+    if (!step.chip.kept) {
+        random_programs(&step.chip);
+        program_len = step.chip.program_len;
+        outside_len = step.chip.outside_len;
+    }
     step.chip.set = set;
+    step.chip.program_len = program_len;
+    step.chip.outside_len = outside_len;
     random_sizes(&step.chip);
     random_state(&step.chip);
     random_ram(&step.chip);
     step.first = random_sample();
     step.second = random_sample();
+    if (step.chip.outside_len == 0 && !one_in(16)) /* or else few would come to an instruction */
+        step.first &= ~SECOND_PIN_EA;
 }
 
 void quiet_pins(void)
 {
-    step.first = (step.first & SECOND_PIN_IDLE) | SECOND_PIN_RESET | SECOND_PIN_INT;
-    step.second = (step.second & SECOND_PIN_IDLE) | SECOND_PIN_RESET | SECOND_PIN_INT;
+    step.first = (step.first & ~SECOND_PIN_NONE) | SECOND_PIN_RESET | SECOND_PIN_INT;
+    step.second = (step.second & ~SECOND_PIN_NONE) | SECOND_PIN_RESET | SECOND_PIN_INT;
+    if (step.chip.outside_len == 0)
+        step.first &= ~SECOND_PIN_EA;
+}
+
+static void put(uint16_t address, uint8_t byte)
+{
+    put_byte(&lent, &step.chip, is_high(SECOND_PIN_EA), address, byte);
+}
+
+void put_code(uint8_t code)
+{
+    put(pc_of(&step.chip), code);
+}
+
+void put_operand(uint8_t operand)
+{
+    put(next_pc(pc_of(&step.chip)), operand);
+}
+
+bool is_outside(uint16_t address)
+{
+    return is_high(SECOND_PIN_EA) || address >= step.chip.program_len;
 }
 
 uint32_t with_pin(uint32_t sample, uint32_t pin, bool high)
@@ -341,7 +400,7 @@ static uint64_t packed(struct second_outcome outcome)
 {
     return outcome.number | (uint64_t)outcome.cycles << 8 | (uint64_t)outcome.event << 16 |
            (uint64_t)outcome.address << 24 | (uint64_t)outcome.data << 32 |
-           (uint64_t)outcome.samples << 48;
+           (uint64_t)outcome.outside << 40 | (uint64_t)outcome.samples << 48;
 }
 
 /* By the header's functions. */
@@ -349,7 +408,8 @@ static bool is_taken_apart(uint64_t answer, struct second_outcome outcome)
 {
     return mcs48_number(answer) == outcome.number && mcs48_cycles(answer) == outcome.cycles &&
            mcs48_event(answer) == outcome.event && mcs48_event_address(answer) == outcome.address &&
-           mcs48_event_data(answer) == outcome.data && mcs48_samples(answer) == outcome.samples;
+           mcs48_event_data(answer) == outcome.data && mcs48_outside(answer) == outcome.outside &&
+           mcs48_samples(answer) == outcome.samples;
 }
 
 /* Against what was lent, not against the second emulator, which could err the same way. */
@@ -361,18 +421,27 @@ static void refused_touches_nothing(void)
         differ("refused, and the RAM is another");
 }
 
+/* By the document: a reset, a wait, a call and a refused step have fetched nothing. */
+static void check_outside(struct second_outcome outcome)
+{
+    bool fetches = outcome.number == SECOND_ACCEPTED && act_of_step() == INSTRUCTION;
+
+    if (outcome.outside != (fetches ? bytes_from_outside() : 0))
+        differ("not so many bytes from outside");
+}
+
 struct second_outcome check_step(void)
 {
     const struct chip *chip = &step.chip;
 
     lend_chip(&lent, chip);
     proved_answer = second_answer = 0;
-    proved_answer =
-        mcs48_step(chip->set, lent.program.at, chip->program_len, lent.ram.at, chip->ram_len,
-                   lent.state.at, chip->state_len, step.first, step.second);
+    proved_answer = mcs48_step(chip->set, lent.program.at, chip->program_len, lent.outside_at,
+                               chip->outside_len, lent.ram.at, chip->ram_len, lent.state.at,
+                               chip->state_len, step.first, step.second);
     struct second_outcome outcome =
-        second_step(chip->set, chip->program, chip->program_len, lent.second_ram, chip->ram_len,
-                    &lent.second_state, step.first, step.second);
+        second_step(chip->set, chip->program, chip->program_len, chip->outside, chip->outside_len,
+                    lent.second_ram, chip->ram_len, &lent.second_state, step.first, step.second);
     second_answer = packed(outcome);
 
     if (proved_answer != second_answer)
@@ -382,6 +451,7 @@ struct second_outcome check_step(void)
     if ((proved_answer & 0xFF) != 0)
         refused_touches_nothing();
     compare_chips(&lent, chip);
+    check_outside(outcome);
     note(outcome);
     return outcome;
 }
@@ -403,19 +473,21 @@ static void check_defined(struct second_outcome outcome, uint8_t code)
 
 static void code_case(uint32_t set, uint8_t code)
 {
-    uint64_t times = 0;
+    uint64_t inside = 0;
+    uint64_t outside = 0;
 
     begin_case("%s, %s code %02X", set_name(set), is_defined(set, code) ? "defined" : "undefined",
                code);
-    for (uint64_t tries = 0; times < count() && agrees(); tries++) {
+    for (uint64_t tries = 0; (inside < count() || outside < count()) && agrees(); tries++) {
         random_step(set, tries);
-        put_code(&step.chip, code);
+        put_code(code);
         struct second_outcome outcome = check_step();
         if (reached(outcome)) {
             check_defined(outcome, code);
-            times++;
+            inside += !is_outside(pc_of(&step.chip));
+            outside += is_outside(pc_of(&step.chip));
         }
-        if (tries > 100 * (times + 10))
+        if (tries > 100 * (inside + 10) || tries > 100 * (outside + 10))
             differ("too few steps come as far as the code");
     }
     end_case();
@@ -431,6 +503,7 @@ int main(int argc, char **argv)
         for (unsigned code = 0; code < 256; code++)
             code_case(sets[i], (uint8_t)code);
         edge_cases(sets[i]);
+        outside_cases(sets[i]);
     }
     accumulator_cases();
     halt_cases();

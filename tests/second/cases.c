@@ -1,11 +1,11 @@
 /*
  * Tests of the second emulator: the sixteen bench cases of document 01, then the
- * sentences of document 01, of items 2 and 3 of document 02 and of our readings that are
- * easily misread.
+ * sentences of document 01, of items 2, 3 and 7 of document 02 and of our readings that
+ * are easily misread.
  *
- * Written from document 01 (the scope), items 2 and 3 of document 02 and our readings of
- * them alone, without a look at the Rattle sources; codes and spellings after data sheets
- * 001 and 002, those of HALT and STOP after 000.
+ * Written from document 01 (the scope), items 2, 3 and 7 of document 02 and our readings
+ * of them alone, without a look at the Rattle sources; codes and spellings after data
+ * sheets 001 and 002, those of HALT and STOP after 000.
  *
  * A failed test prints what was expected and got. The last line is `N passed, M failed`,
  * and the exit status is 0 exactly if M is 0.
@@ -21,6 +21,7 @@
 #define T0_LOW (IDLE & ~SECOND_PIN_T0)
 #define T1_LOW (IDLE & ~SECOND_PIN_T1)
 #define RESET_LOW (IDLE & ~SECOND_PIN_RESET)
+#define EA_HIGH (IDLE | SECOND_PIN_EA)
 
 enum { C = 0x80, AC = 0x40, F0 = 0x20, BS = 0x10, ONE = 0x08 }; /* PSW */
 
@@ -137,16 +138,18 @@ static void check_outcome(const char *name, struct second_outcome expected,
 {
     if (expected.number == got.number && expected.cycles == got.cycles &&
         expected.samples == got.samples && expected.event == got.event &&
-        expected.address == got.address && expected.data == got.data) {
+        expected.address == got.address && expected.data == got.data &&
+        expected.outside == got.outside) {
         passed++;
         return;
     }
     failed++;
-    printf("%s: outcome: expected number %u cycles %u samples %u event %u address %02X data %02X, "
-           "got number %u cycles %u samples %u event %u address %02X data %02X\n",
+    printf("%s: outcome: expected number %u cycles %u samples %u event %u address %02X data %02X "
+           "outside %u, "
+           "got number %u cycles %u samples %u event %u address %02X data %02X outside %u\n",
            name, expected.number, expected.cycles, expected.samples, expected.event,
-           expected.address, expected.data, got.number, got.cycles, got.samples, got.event,
-           got.address, got.data);
+           expected.address, expected.data, expected.outside, got.number, got.cycles, got.samples,
+           got.event, got.address, got.data, got.outside);
 }
 
 /*
@@ -157,6 +160,8 @@ struct bench {
     uint32_t set;
     uint8_t program[4096];
     size_t program_len;
+    uint8_t outside[4096];
+    size_t outside_len;
     uint8_t ram[256];
     uint8_t want_ram[256];
     size_t ram_len;
@@ -167,7 +172,10 @@ struct bench {
     uint32_t second;
 };
 
-/* Intel, 4,096 NOPs, 256 zeros, the state after power-up but for a high T1, idle pins. */
+/*
+ * Intel, 4,096 NOPs, no second program, 256 zeros, the state after power-up but for a high
+ * T1, idle pins.
+ */
 static void fresh(struct bench *b)
 {
     memset(b, 0, sizeof *b);
@@ -226,10 +234,16 @@ static void expect_event(struct bench *b, uint8_t event, uint8_t address, uint8_
     b->want_outcome.data = data;
 }
 
+/* A step of which only the change of state is wanted. A second program not lent is null. */
+static struct second_outcome just_step(struct bench *b)
+{
+    return second_step(b->set, b->program, b->program_len, b->outside_len ? b->outside : NULL,
+                       b->outside_len, b->ram, b->ram_len, &b->s, b->first, b->second);
+}
+
 static void step(struct bench *b, const char *name)
 {
-    struct second_outcome outcome = second_step(b->set, b->program, b->program_len, b->ram,
-                                                b->ram_len, &b->s, b->first, b->second);
+    struct second_outcome outcome = just_step(b);
 
     check_outcome(name, b->want_outcome, outcome);
     check_state(name, &b->want, &b->s);
@@ -244,11 +258,10 @@ static void step_refused(struct bench *b, const char *name, uint8_t number)
     step(b, name);
 }
 
-/* A step of which only the change of state is wanted. */
-static struct second_outcome just_step(struct bench *b)
+static struct second_totals run(struct bench *b, const uint32_t *samples, size_t samples_len)
 {
-    return second_step(b->set, b->program, b->program_len, b->ram, b->ram_len, &b->s, b->first,
-                       b->second);
+    return second_run(b->set, b->program, b->program_len, b->outside_len ? b->outside : NULL,
+                      b->outside_len, b->ram, b->ram_len, &b->s, samples, samples_len);
 }
 
 static struct second_totals run_idle(struct bench *b, size_t samples_len)
@@ -257,8 +270,7 @@ static struct second_totals run_idle(struct bench *b, size_t samples_len)
 
     for (size_t i = 0; i < samples_len; i++)
         samples[i] = IDLE;
-    return second_run(b->set, b->program, b->program_len, b->ram, b->ram_len, &b->s, samples,
-                      samples_len);
+    return run(b, samples, samples_len);
 }
 
 /* The codes, written down a second time from document 01 and the data sheets. */
@@ -504,7 +516,7 @@ static void refusals(void)
     b.s.f1 = 0xFF;
     step_refused(&b, "3: F1 is FF", 3);
 
-    for (int bit = 28; bit < 32; bit++) {
+    for (int bit = 29; bit < 32; bit++) {
         fresh(&b);
         b.first |= UINT32_C(1) << bit;
         step_refused(&b, "6: first sample", 6);
@@ -517,6 +529,7 @@ static void refusals(void)
     fresh_with(&b, 0x400, 0x66, 0);
     b.set = 2;
     b.program_len = 1000;
+    b.outside_len = 1024;
     b.ram_len = 100;
     b.s.tf = 2;
     b.second |= UINT32_C(1) << 31;
@@ -524,6 +537,8 @@ static void refusals(void)
     b.set = SECOND_NEC;
     step_refused(&b, "order: then 1", 1);
     b.program_len = 1024;
+    step_refused(&b, "order: then 1 for the second program", 1);
+    b.outside_len = 0;
     step_refused(&b, "order: then 2", 2);
     b.ram_len = 64;
     step_refused(&b, "order: then 3", 3);
@@ -541,7 +556,7 @@ static void refusals(void)
     }
 
     fresh(&b);
-    b.first = RESET_LOW | UINT32_C(1) << 28;
+    b.first = RESET_LOW | UINT32_C(1) << 29;
     step_refused(&b, "6 before reset", 6);
 
     fresh(&b);
@@ -963,7 +978,7 @@ static void waiting(void)
         b.want.last_t1 = 0;
         step(&b, "RESET low goes before INT low: a reset step, and it runs");
 
-        for (int bit = 28; bit < 32; bit++) {
+        for (int bit = 29; bit < 32; bit++) {
             fresh_nec(&b, 0x00, halts[k].mode);
             b.first |= UINT32_C(1) << bit;
             step_refused(&b, "6 in a wait: first sample", 6);
@@ -972,7 +987,7 @@ static void waiting(void)
             step_refused(&b, "6 in a wait: second sample, though it uses one", 6);
         }
         fresh_nec(&b, 0x00, halts[k].mode);
-        b.first = RESET_LOW | UINT32_C(1) << 28;
+        b.first = RESET_LOW | UINT32_C(1) << 29;
         step_refused(&b, "6 in a wait before reset", 6);
     }
 }
@@ -1065,7 +1080,7 @@ static struct second_totals halted_run(struct bench *b, size_t low, size_t sampl
     idle_samples(samples, 16);
     for (size_t i = 3; i < 3 + low; i++)
         samples[i] = INT_LOW;
-    return second_run(SECOND_NEC, b->program, 4096, b->ram, 256, &b->s, samples, samples_len);
+    return run(b, samples, samples_len);
 }
 
 static void halted_runs(void)
@@ -1112,7 +1127,7 @@ static void halted_runs(void)
     b.program[0x211] = 0x66;
     idle_samples(samples, 8);
     samples[1] = INT_LOW;
-    totals = second_run(SECOND_NEC, b.program, 4096, b.ram, 256, &b.s, samples, 8);
+    totals = run(&b, samples, 8);
     check("refused after a release: number", 4, totals.number);
     check("refused after a release: samples", 2, totals.samples);
     check("refused after a release: cycles", 1, (unsigned long)totals.cycles);
@@ -1127,7 +1142,7 @@ static void halted_runs(void)
     b.s.timer_enabled = 1;
     idle_samples(samples, 8);
     samples[4] = INT_LOW;
-    totals = second_run(SECOND_NEC, b.program, 4096, b.ram, 256, &b.s, samples, 8);
+    totals = run(&b, samples, 8);
     check("a request through a halt: samples", 8, totals.samples);
     check("a request through a halt: cycles", 4, (unsigned long)totals.cycles);
     check("a request through a halt: called", 0x007, b.s.pc);
@@ -1138,7 +1153,7 @@ static void halted_runs(void)
     fresh_nec(&b, 0x01, SECOND_MODE_RUNS);
     idle_samples(samples, 8);
     samples[3] = RESET_LOW & INT_LOW;
-    totals = second_run(SECOND_NEC, b.program, 4096, b.ram, 256, &b.s, samples, 8);
+    totals = run(&b, samples, 8);
     check("reset out of a halt: samples", 7, totals.samples);
     check("reset out of a halt: cycles", 5, (unsigned long)totals.cycles);
     check("reset out of a halt: PC", 3, b.s.pc);
@@ -1646,6 +1661,305 @@ static void short_programs(void)
     }
 }
 
+/* The second program (02, item 7). */
+
+/*
+ * A bench with a second program. Inside the pages are full of 50, 51 .. 5F, outside of C0,
+ * C1 .. CF, and an instruction is at PC in the memory that answers there.
+ */
+static void fresh_outside(struct bench *b, size_t program_len, uint32_t first, uint16_t pc,
+                          uint8_t code)
+{
+    fresh_pages(b, 0, 0x50, 0x42);
+    b->program_len = program_len;
+    b->outside_len = 4096;
+    for (unsigned i = 0; i < 4096; i++)
+        b->outside[i] = (uint8_t)(i >> 8 | 0xC0);
+    b->first = first;
+    b->s.pc = pc;
+    if (first & SECOND_PIN_EA || pc >= program_len)
+        b->outside[pc] = code;
+    else
+        b->program[pc] = code;
+}
+
+/* A step of so many bytes from outside. */
+static void expect_outside(struct bench *b, uint16_t pc, uint8_t cycles, uint8_t outside)
+{
+    expect(b, pc, cycles);
+    b->want_outcome.outside = outside;
+}
+
+/* What MOV A,#data finds, and how many of its two bytes came from outside. */
+static void outside_operands(void)
+{
+    static const struct {
+        size_t program_len;
+        uint32_t first;
+        uint16_t at;
+        uint16_t next;
+        uint8_t a;
+        uint8_t outside;
+    } rows[] = {
+        {1024, IDLE, 0x000, 0x002, 0x50, 0},    {1024, IDLE, 0x3FE, 0x400, 0x53, 0},
+        {1024, IDLE, 0x3FF, 0x401, 0xC4, 1},    {1024, IDLE, 0x400, 0x402, 0xC4, 2},
+        {1024, IDLE, 0x7FE, 0x000, 0xC7, 2},    {1024, IDLE, 0x7FF, 0x001, 0x50, 1},
+        {1024, IDLE, 0x800, 0x802, 0xC8, 2},    {1024, IDLE, 0xBFF, 0xC01, 0xCC, 2},
+        {1024, IDLE, 0xFFF, 0x801, 0xC8, 2},    {2048, IDLE, 0x3FF, 0x401, 0x54, 0},
+        {2048, IDLE, 0x400, 0x402, 0x54, 0},    {2048, IDLE, 0x7FE, 0x000, 0x57, 0},
+        {2048, IDLE, 0x7FF, 0x001, 0x50, 0},    {2048, IDLE, 0x800, 0x802, 0xC8, 2},
+        {2048, IDLE, 0xFFF, 0x801, 0xC8, 2},    {4096, IDLE, 0x3FF, 0x401, 0x54, 0},
+        {4096, IDLE, 0x7FF, 0x001, 0x50, 0},    {4096, IDLE, 0x800, 0x802, 0x58, 0},
+        {4096, IDLE, 0xFFF, 0x801, 0x58, 0},    {1024, EA_HIGH, 0x000, 0x002, 0xC0, 2},
+        {1024, EA_HIGH, 0x3FF, 0x401, 0xC4, 2}, {1024, EA_HIGH, 0x7FF, 0x001, 0xC0, 2},
+        {2048, EA_HIGH, 0x3FF, 0x401, 0xC4, 2}, {2048, EA_HIGH, 0x7FF, 0x001, 0xC0, 2},
+        {2048, EA_HIGH, 0x800, 0x802, 0xC8, 2}, {4096, EA_HIGH, 0x000, 0x002, 0xC0, 2},
+        {4096, EA_HIGH, 0x7FF, 0x001, 0xC0, 2}, {4096, EA_HIGH, 0xFFF, 0x801, 0xC8, 2},
+    };
+    struct bench b;
+
+    for (size_t i = 0; i < sizeof rows / sizeof *rows; i++) {
+        fresh_outside(&b, rows[i].program_len, rows[i].first, rows[i].at, 0x23);
+        expect_outside(&b, rows[i].next, 2, rows[i].outside);
+        b.want.a = rows[i].a;
+        step(&b, "MOV A,#data from two memories");
+
+        /* NOP has one byte, and looks for no other. */
+        fresh_outside(&b, rows[i].program_len, rows[i].first, rows[i].at, 0x00);
+        bool outside = rows[i].first & SECOND_PIN_EA || rows[i].at >= rows[i].program_len;
+        expect_outside(&b, (uint16_t)((rows[i].at & 0x800) | ((rows[i].at + 1) & 0x7FF)), 1,
+                       outside);
+        step(&b, "NOP from two memories");
+    }
+}
+
+/* Table bytes go by their own address, and count. */
+static void outside_tables(void)
+{
+    static const struct {
+        size_t program_len;
+        uint32_t first;
+        uint16_t at;
+        uint16_t next;
+        uint8_t movp;
+        uint8_t movp_outside;
+        uint8_t movp3;
+        uint8_t movp3_outside;
+        uint16_t jmpp;
+        uint8_t jmpp_outside;
+    } rows[] = {
+        {1024, IDLE, 0x210, 0x211, 0x52, 0, 0x53, 0, 0x252, 0},
+        {1024, IDLE, 0x3FF, 0x400, 0xC4, 1, 0x53, 0, 0x353, 0},
+        {1024, IDLE, 0x400, 0x401, 0xC4, 2, 0x53, 1, 0x4C4, 2},
+        {1024, IDLE, 0x7FF, 0x000, 0x50, 1, 0x53, 1, 0x7C7, 2},
+        {1024, IDLE, 0x810, 0x811, 0xC8, 2, 0xCB, 2, 0x8C8, 2},
+        {1024, IDLE, 0xFFF, 0x800, 0xC8, 2, 0xCB, 2, 0xFCF, 2},
+        {2048, IDLE, 0x3FF, 0x400, 0x54, 0, 0x53, 0, 0x353, 0},
+        {2048, IDLE, 0x7FF, 0x000, 0x50, 0, 0x53, 0, 0x757, 0},
+        {2048, IDLE, 0x800, 0x801, 0xC8, 2, 0xCB, 2, 0x8C8, 2},
+        {4096, IDLE, 0xFFF, 0x800, 0x58, 0, 0x5B, 0, 0xF5F, 0},
+        {1024, EA_HIGH, 0x210, 0x211, 0xC2, 2, 0xC3, 2, 0x2C2, 2},
+        {2048, EA_HIGH, 0x3FF, 0x400, 0xC4, 2, 0xC3, 2, 0x3C3, 2},
+        {4096, EA_HIGH, 0xFFF, 0x800, 0xC8, 2, 0xCB, 2, 0xFCF, 2},
+    };
+    struct bench b;
+
+    for (size_t i = 0; i < sizeof rows / sizeof *rows; i++) {
+        fresh_outside(&b, rows[i].program_len, rows[i].first, rows[i].at, 0xA3);
+        expect_outside(&b, rows[i].next, 2, rows[i].movp_outside);
+        b.want.a = rows[i].movp;
+        step(&b, "MOVP from two memories");
+        fresh_outside(&b, rows[i].program_len, rows[i].first, rows[i].at, 0xE3);
+        expect_outside(&b, rows[i].next, 2, rows[i].movp3_outside);
+        b.want.a = rows[i].movp3;
+        step(&b, "MOVP3 from two memories");
+        fresh_outside(&b, rows[i].program_len, rows[i].first, rows[i].at, 0xB3);
+        expect_outside(&b, rows[i].jmpp, 2, rows[i].jmpp_outside);
+        step(&b, "JMPP from two memories");
+    }
+}
+
+/* EA is that of the step's first sample, in every one of its bytes. */
+static void outside_samples(void)
+{
+    static const uint8_t codes[] = {0x23, 0xA3, 0xE3};
+    struct bench b;
+
+    for (size_t i = 0; i < sizeof codes; i++) {
+        fresh_outside(&b, 4096, IDLE, 0x210, codes[i]);
+        b.second = EA_HIGH;
+        expect_outside(&b, codes[i] == 0x23 ? 0x212 : 0x211, 2, 0);
+        b.want.a = codes[i] == 0xE3 ? 0x53 : 0x52;
+        step(&b, "EA high in the second sample only");
+        fresh_outside(&b, 4096, EA_HIGH, 0x210, codes[i]);
+        expect_outside(&b, codes[i] == 0x23 ? 0x212 : 0x211, 2, 2);
+        b.want.a = codes[i] == 0xE3 ? 0xC3 : 0xC2;
+        step(&b, "EA high in the first sample only");
+    }
+
+    fresh(&b);
+    b.second = EA_HIGH;
+    expect(&b, 1, 1);
+    step(&b, "EA high in the second sample, and no second program");
+    for (int bit = 29; bit < 32; bit++) {
+        for (int high = 0; high < 4; high++) {
+            fresh_outside(&b, 1024, high & 1 ? EA_HIGH : IDLE, 0x210, 0x00);
+            b.second = high & 2 ? EA_HIGH : IDLE;
+            *(high & 1 ? &b.first : &b.second) |= UINT32_C(1) << bit;
+            step_refused(&b, "6 whatever EA is", 6);
+        }
+    }
+}
+
+/* 5 exactly if the memory that must answer lacks the byte. */
+static void outside_past_end(void)
+{
+    static const size_t programs[] = {1024, 2048, 4096};
+    struct bench b;
+
+    for (size_t i = 0; i < 3; i++) {
+        fresh_with(&b, 0x210, 0x23, 0x5A);
+        b.program_len = programs[i];
+        b.first = EA_HIGH;
+        step_refused(&b, "5: EA high and no second program, though the byte is inside", 5);
+        b.s.pc = 0xFFF;
+        step_refused(&b, "5: EA high and no second program, at FFF", 5);
+        b.s.pc = 0x210;
+        b.program[0x210] = 0x66;
+        step_refused(&b, "5 before 4: EA high and no second program", 5);
+        b.outside_len = 4096;
+        b.outside[0x210] = 0x66;
+        step_refused(&b, "4: undefined code outside", 4);
+        b.outside[0x210] = 0x23;
+        expect_outside(&b, 0x212, 2, 2);
+        step(&b, "its second byte outside, too");
+    }
+
+    fresh_outside(&b, 1024, IDLE, 0x3FF, 0x23);
+    b.outside_len = 0;
+    step_refused(&b, "5: second byte at 400 of 1,024 with no second program", 5);
+    b.program[0x3FF] = 0xA3;
+    step_refused(&b, "5: table byte of MOVP at 3FF of 1,024 with no second program", 5);
+    b.program[0x3FF] = 0xE3;
+    expect_outside(&b, 0x400, 2, 0);
+    b.want.a = 0x53;
+    step(&b, "MOVP3 at 3FF of 1,024 needs none");
+    step_refused(&b, "5: first byte at 400 of 1,024 with no second program", 5);
+}
+
+/* Steps that fetch nothing report no byte, with every fetch outside. */
+static void outside_unfetched(void)
+{
+    struct bench b;
+
+    fresh_outside(&b, 1024, EA_HIGH, 0xFFF, 0x23);
+    b.first &= ~SECOND_PIN_RESET;
+    expect(&b, 0, 1);
+    step(&b, "a reset fetches nothing from outside");
+
+    for (unsigned timer = 0; timer < 2; timer++) {
+        fresh_outside(&b, 1024, timer ? EA_HIGH : EA_HIGH & ~SECOND_PIN_INT, 0xFFF, 0x23);
+        b.s.external_enabled = !timer;
+        b.s.timer_enabled = (uint8_t)timer;
+        b.s.request = (uint8_t)timer;
+        expect(&b, timer ? 7 : 3, 2);
+        b.want.in_service = 1;
+        b.want.request = 0;
+        b.want.psw = ONE | 1;
+        b.want_ram[8] = 0xFF;
+        b.want_ram[9] = 0x0F;
+        step(&b, "a call fetches nothing from outside");
+    }
+    for (uint8_t mode = SECOND_MODE_HALTED; mode <= SECOND_MODE_STOPPED; mode++) {
+        fresh_outside(&b, 1024, EA_HIGH, 0xFFF, 0x23);
+        b.set = SECOND_NEC;
+        b.s.mode = mode;
+        expect_wait(&b, mode);
+        step(&b, "a wait fetches nothing from outside");
+        b.outside_len = 0;
+        step(&b, "a wait needs no second program");
+    }
+    fresh_outside(&b, 1024, EA_HIGH, 0x210, 0x01);
+    b.set = SECOND_NEC;
+    expect_outside(&b, 0x211, 1, 1);
+    b.want.mode = SECOND_MODE_HALTED;
+    step(&b, "HALT from outside");
+
+    fresh_outside(&b, 1024, EA_HIGH, 0x210, 0x66);
+    step_refused(&b, "4 reports no byte, though one came from outside", 4);
+    fresh_outside(&b, 1024, IDLE, 0x7FF, 0x01);
+    step_refused(&b, "4 past the internal end", 4);
+}
+
+static void outside_lengths(void)
+{
+    static const size_t refused[] = {1, 2, 64, 1000, 1023, 1024, 1025, 2048, 4095, 4097, 8192};
+    struct bench b;
+
+    for (size_t i = 0; i < sizeof refused / sizeof *refused; i++) {
+        fresh_outside(&b, 1024, IDLE, 0x210, 0x00);
+        b.outside_len = refused[i]; /* only the length is looked at */
+        step_refused(&b, "1: length of the second program", 1);
+        b.first = RESET_LOW;
+        step_refused(&b, "1 before reset", 1);
+        b.ram_len = 100;
+        b.s.tf = 2;
+        b.second |= UINT32_C(1) << 30;
+        step_refused(&b, "1: before 2, 3 and 6", 1);
+        b.program_len = 1000;
+        step_refused(&b, "1: both lengths", 1);
+        b.set = 2;
+        step_refused(&b, "1: after 25", 25);
+    }
+    fresh_outside(&b, 1000, IDLE, 0x210, 0x00);
+    step_refused(&b, "1: the first program's length, a second lent", 1);
+}
+
+/* INC A inside and DEC A outside: what a run leaves in A is its EA. */
+static void outside_runs(void)
+{
+    struct bench b;
+    uint32_t samples[8] = {IDLE, EA_HIGH, IDLE, IDLE, EA_HIGH, IDLE, IDLE, EA_HIGH};
+    struct second_totals totals;
+
+    fresh_outside(&b, 1024, IDLE, 0x210, 0x17);
+    memset(b.program, 0x17, sizeof b.program);
+    memset(b.outside, 0x07, sizeof b.outside);
+    totals = run(&b, samples, 8);
+    check("EA in a run: number", 0, totals.number);
+    check("EA in a run: samples", 7, totals.samples);
+    check("EA in a run: five INC A and two DEC A", 0x42 + 3, b.s.a);
+
+    b.s.pc = 0x3FE;
+    totals = run(&b, samples, 8);
+    check("across 3FF: number", 0, totals.number);
+    check("across 3FF: PC", 0x405, b.s.pc);
+    check("across 3FF: one INC A and six DEC A", 0x42 + 3 - 5, b.s.a);
+
+    b.outside_len = 0;
+    b.s.pc = 0x3FE;
+    samples[1] = IDLE;
+    totals = run(&b, samples, 8);
+    check("across 3FF, no second program: number", 5, totals.number);
+    check("across 3FF, no second program: samples", 2, totals.samples);
+    check("across 3FF, no second program: PC", 0x400, b.s.pc);
+    b.s.pc = 0x210;
+    totals = run(&b, samples, 8);
+    check("EA high, no second program: number", 5, totals.number);
+    check("EA high, no second program: samples", 4, totals.samples);
+}
+
+static void second_program(void)
+{
+    outside_operands();
+    outside_tables();
+    outside_samples();
+    outside_past_end();
+    outside_unfetched();
+    outside_lengths();
+    outside_runs();
+}
+
 static void stack(void)
 {
     static const struct {
@@ -2080,26 +2394,38 @@ static void runs(void)
     for (size_t len = 0; len < 2; len++) {
         fresh_with(&b, 0, 0x66, 0);
         b.want = b.s;
-        totals = second_run(2, b.program, 1000, b.ram, 100, &b.s, len ? samples : NULL, len);
+        b.set = 2;
+        b.program_len = 1000;
+        b.outside_len = 1000;
+        b.ram_len = 100;
+        totals = run(&b, len ? samples : NULL, len);
         check("short run: 25", 25, totals.number);
         check("short run: 25, samples", 0, totals.samples);
         check("short run: 25, cycles", 0, (unsigned long)totals.cycles);
-        totals = second_run(SECOND_INTEL, b.program, 1000, b.ram, 100, &b.s, samples, len);
+        b.set = SECOND_INTEL;
+        totals = run(&b, samples, len);
         check("short run: 1", 1, totals.number);
-        totals = second_run(SECOND_INTEL, b.program, 1024, b.ram, 100, &b.s, samples, len);
+        b.program_len = 1024;
+        totals = run(&b, samples, len);
+        check("short run: 1 for the second program", 1, totals.number);
+        b.outside_len = 4096;
+        totals = run(&b, samples, len);
         check("short run: 2", 2, totals.number);
+        b.ram_len = 64;
         b.s.tf = b.want.tf = 2;
-        totals = second_run(SECOND_INTEL, b.program, 1024, b.ram, 64, &b.s, samples, len);
+        totals = run(&b, samples, len);
         check("short run: 3", 3, totals.number);
         b.s.tf = b.want.tf = 0;
         b.s.mode = b.want.mode = SECOND_MODE_HALTED;
-        totals = second_run(SECOND_INTEL, b.program, 1024, b.ram, 64, &b.s, samples, len);
+        totals = run(&b, samples, len);
         check("short run: 3 for a halted Intel", 3, totals.number);
-        totals = second_run(SECOND_NEC, b.program, 1024, b.ram, 64, &b.s, samples, len);
+        b.set = SECOND_NEC;
+        totals = run(&b, samples, len);
         check("short run: not so for NEC", 0, totals.number);
+        b.set = SECOND_INTEL;
         b.s.mode = b.want.mode = SECOND_MODE_RUNS;
         samples[0] = UINT32_MAX;
-        totals = second_run(SECOND_INTEL, b.program, 1024, b.ram, 64, &b.s, samples, len);
+        totals = run(&b, samples, len);
         samples[0] = IDLE;
         check("short run: number", 0, totals.number);
         check("short run: samples", 0, totals.samples);
@@ -2108,7 +2434,7 @@ static void runs(void)
     }
 
     fresh(&b);
-    totals = second_run(SECOND_INTEL, b.program, 4096, b.ram, 256, &b.s, samples, 8);
+    totals = run(&b, samples, 8);
     check("run of NOPs: number", 0, totals.number);
     check("run of NOPs: a last single sample isn't used", 7, totals.samples);
     check("run of NOPs: cycles", 7, (unsigned long)totals.cycles);
@@ -2116,12 +2442,12 @@ static void runs(void)
 
     fresh(&b);
     samples[7] = UINT32_MAX;
-    totals = second_run(SECOND_INTEL, b.program, 4096, b.ram, 256, &b.s, samples, 8);
+    totals = run(&b, samples, 8);
     check("run: 6 through a one-cycle step's second sample", 6, totals.number);
     check("run: samples before the 6", 6, totals.samples);
     check("run: PC before the 6", 6, b.s.pc);
     fresh_with(&b, 0, 0x04, 0x00);
-    totals = second_run(SECOND_INTEL, b.program, 4096, b.ram, 256, &b.s, samples, 7);
+    totals = run(&b, samples, 7);
     check("run: a last single sample isn't looked at: number", 0, totals.number);
     check("run: a last single sample isn't looked at: samples", 6, totals.samples);
     samples[7] = IDLE;
@@ -2129,7 +2455,7 @@ static void runs(void)
     fresh(&b);
     b.program[3] = 0x66;
     put2(&b, 1, 0x23, 0x5A);
-    totals = second_run(SECOND_INTEL, b.program, 4096, b.ram, 256, &b.s, samples, 8);
+    totals = run(&b, samples, 8);
     check("run refused: number", 4, totals.number);
     check("run refused: samples", 3, totals.samples);
     check("run refused: cycles", 3, (unsigned long)totals.cycles);
@@ -2137,7 +2463,7 @@ static void runs(void)
     check("run refused: PC", 3, b.s.pc);
 
     fresh_with(&b, 0x123, 0x66, 0);
-    totals = second_run(SECOND_INTEL, b.program, 4096, b.ram, 256, &b.s, samples, 8);
+    totals = run(&b, samples, 8);
     check("run refused at once: number", 4, totals.number);
     check("run refused at once: samples", 0, totals.samples);
     check("run refused at once: cycles", 0, (unsigned long)totals.cycles);
@@ -2146,7 +2472,7 @@ static void runs(void)
     fresh(&b);
     b.s.external_enabled = 1;
     samples[1] = INT_LOW;
-    totals = second_run(SECOND_INTEL, b.program, 4096, b.ram, 256, &b.s, samples, 3);
+    totals = run(&b, samples, 3);
     check("run: pairs overlap: samples", 3, totals.samples);
     check("run: pairs overlap: PC", 3, b.s.pc);
     check("run: pairs overlap: pushed", 1, b.ram[8]);
@@ -2154,7 +2480,7 @@ static void runs(void)
 
     memset(samples, 0, sizeof samples);
     fresh_with(&b, 0x123, 0x66, 0);
-    totals = second_run(SECOND_INTEL, b.program, 4096, b.ram, 256, &b.s, samples, 8);
+    totals = run(&b, samples, 8);
     check("run of zeros is all resets: number", 0, totals.number);
     check("run of zeros is all resets: samples", 7, totals.samples);
     check("run of zeros is all resets: PC", 0, b.s.pc);
@@ -2659,19 +2985,26 @@ static uint8_t random_flag(void)
     return random_bits() >> 11 & 1;
 }
 
+static void random_codes(const struct bench *b, uint8_t *program, size_t len)
+{
+    for (size_t i = 0; i < len; i++) {
+        program[i] = random_byte();
+        if (is_undefined(b->set, program[i]) && random_bits() % 16 != 0)
+            program[i] = 0x00;
+        if (b->set == SECOND_NEC && random_bits() % 16 == 0)
+            program[i] = random_flag() ? 0x01 : 0x82;
+    }
+}
+
 static void random_bench(struct bench *b)
 {
     fresh(b);
     b->set = random_flag() ? SECOND_NEC : SECOND_INTEL;
     b->program_len = (size_t)1024 << random_bits() % 3;
     b->ram_len = (size_t)64 << random_bits() % 3;
-    for (size_t i = 0; i < b->program_len; i++) {
-        b->program[i] = random_byte();
-        if (is_undefined(b->set, b->program[i]) && random_bits() % 16 != 0)
-            b->program[i] = 0x00;
-        if (b->set == SECOND_NEC && random_bits() % 16 == 0)
-            b->program[i] = random_flag() ? 0x01 : 0x82;
-    }
+    b->outside_len = random_flag() ? 4096 : 0;
+    random_codes(b, b->program, b->program_len);
+    random_codes(b, b->outside, b->outside_len);
     for (size_t i = 0; i < sizeof b->ram; i++)
         b->ram[i] = random_byte();
     b->s = (struct second_state){
@@ -2714,9 +3047,10 @@ static void random_runs(void)
                 samples[i] |= SECOND_PIN_RESET;
             if (random_bits() % 8 != 0)
                 samples[i] |= SECOND_PIN_INT;
+            if (b.outside_len != 0 && random_flag())
+                samples[i] |= SECOND_PIN_EA;
         }
-        struct second_totals totals = second_run(b.set, b.program, b.program_len, b.ram, b.ram_len,
-                                                 &b.s, samples, samples_len);
+        struct second_totals totals = run(&b, samples, samples_len);
 
         size_t used = 0;
         uint64_t cycles = 0;
@@ -2759,6 +3093,7 @@ int main(void)
     jumps();
     tables();
     short_programs();
+    second_program();
     stack();
     accumulator();
     memory();

@@ -2,9 +2,9 @@
  * Second emulator of the Intel MCS-48 (8048, 8049, 8050) and of NEC's uPD80C49H: the
  * second opinion that the proved one is compared with.
  *
- * Written from document 01 (the scope), items 2 and 3 of document 02 and our readings of
- * them alone, without a look at the Rattle sources; codes and spellings after data sheets
- * 001 and 002, those of HALT and STOP after 000.
+ * Written from document 01 (the scope), items 2, 3 and 7 of document 02 and our readings
+ * of them alone, without a look at the Rattle sources; codes and spellings after data
+ * sheets 001 and 002, those of HALT and STOP after 000.
  *
  * No routine keeps anything between calls: what it works on is lent to it and nothing is
  * allocated. A pointer may be null only where the length that goes with it is 0.
@@ -35,7 +35,10 @@ enum second_number {
  */
 enum second_set { SECOND_INTEL = 0, SECOND_NEC = 1 };
 
-/* A pin sample: the levels in one machine cycle. Bits 28 to 31 are 0. */
+/*
+ * A pin sample: the levels in one machine cycle. Bits 29 to 31 are 0. EA is looked at in a
+ * step's first sample only.
+ */
 #define SECOND_PIN_BUS_SHIFT 0
 #define SECOND_PIN_P1_SHIFT 8
 #define SECOND_PIN_P2_SHIFT 16
@@ -43,8 +46,9 @@ enum second_set { SECOND_INTEL = 0, SECOND_NEC = 1 };
 #define SECOND_PIN_T0 (UINT32_C(1) << 25)
 #define SECOND_PIN_T1 (UINT32_C(1) << 26)
 #define SECOND_PIN_RESET (UINT32_C(1) << 27)
-#define SECOND_PIN_NONE (UINT32_C(15) << 28)
-#define SECOND_PIN_IDLE UINT32_C(0x0FFFFFFF)
+#define SECOND_PIN_EA (UINT32_C(1) << 28)
+#define SECOND_PIN_NONE (UINT32_C(7) << 29)
+#define SECOND_PIN_IDLE UINT32_C(0x0FFFFFFF) /* all high but EA */
 
 enum second_counting { SECOND_STOPPED, SECOND_TIMER, SECOND_COUNTER };
 
@@ -102,6 +106,7 @@ struct second_outcome {
     uint8_t event;   /* enum second_event_kind */
     uint8_t address; /* MOVX address, or port 4 to 7 */
     uint8_t data;    /* MOVX data written, or A's low digit before; else 0 */
+    uint8_t outside; /* bytes that came from outside: 0 to 2 */
 };
 
 /* The state after power-up. RAM is as lent. */
@@ -112,10 +117,15 @@ void second_power_up(struct second_state *state);
  * instruction. `first` and `second` are the samples of its first and second cycle; both
  * are looked at for number 6, even if the step uses one. Numbers 25, 1, 2, 3, 6, then 5,
  * 4, 5. Accepted, it changes state and RAM in place; refused, it touches nothing.
+ *
+ * `outside` is the second program, the external memory, of 4,096 bytes; with none its
+ * length is 0. It answers a fetch past the end of `program`, and every fetch of a step
+ * whose first sample has EA high.
  */
 struct second_outcome second_step(uint32_t set, const uint8_t *program, size_t program_len,
-                                  uint8_t *ram, size_t ram_len, struct second_state *state,
-                                  uint32_t first, uint32_t second);
+                                  const uint8_t *outside, size_t outside_len, uint8_t *ram,
+                                  size_t ram_len, struct second_state *state, uint32_t first,
+                                  uint32_t second);
 
 struct second_totals {
     uint8_t number; /* of the step refused, or 0 if the samples ran out */
@@ -128,8 +138,9 @@ struct second_totals {
  * 0 or 1 sample it checks 25, 1, 2 and 3 and does nothing.
  */
 struct second_totals second_run(uint32_t set, const uint8_t *program, size_t program_len,
-                                uint8_t *ram, size_t ram_len, struct second_state *state,
-                                const uint32_t *samples, size_t samples_len);
+                                const uint8_t *outside, size_t outside_len, uint8_t *ram,
+                                size_t ram_len, struct second_state *state, const uint32_t *samples,
+                                size_t samples_len);
 
 /* The 96 instructions and NEC's two. R is a register, AT_R the cell it points at, P a port. */
 enum second_operation {

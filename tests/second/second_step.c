@@ -1,8 +1,8 @@
 /*
  * Second emulator of the MCS-48: power-up, the step and the run.
  *
- * Written from document 01 (the scope), items 2 and 3 of document 02 and our readings of
- * them alone, without a look at the Rattle sources.
+ * Written from document 01 (the scope), items 2, 3 and 7 of document 02 and our readings
+ * of them alone, without a look at the Rattle sources.
  */
 #include "second.h"
 #include "second_codes.h"
@@ -43,6 +43,37 @@ static uint8_t pins(uint32_t sample, unsigned shift)
 static void remember_t1(struct second_state *s, uint32_t sample)
 {
     s->last_t1 = pin_high(sample, SECOND_PIN_T1);
+}
+
+/* Program memory. */
+
+/* What a step can fetch from, and how much came from outside. */
+struct memory {
+    const uint8_t *inside;
+    size_t inside_len;
+    const uint8_t *outside;
+    size_t outside_len;
+    bool ea; /* of the step's first sample: "all bytes of a step go by" it (our reading) */
+    uint8_t from_outside;
+};
+
+/*
+ * "A fetch past the internal end, or any fetch with EA high, takes its byte there" (02,
+ * item 7), at the same address. False if the memory that must answer lacks the byte.
+ */
+static bool fetch(struct memory *m, uint16_t address, uint8_t *byte)
+{
+    bool inside = !m->ea && address < m->inside_len;
+
+    if (inside) {
+        *byte = m->inside[address];
+        return true;
+    }
+    if (address >= m->outside_len)
+        return false;
+    *byte = m->outside[address];
+    m->from_outside++;
+    return true;
 }
 
 /* Timer and counter. */
@@ -298,27 +329,26 @@ static uint8_t mode_entered(enum second_mode mode, uint32_t first)
     return (uint8_t)(pin_high(first, SECOND_PIN_INT) ? mode : SECOND_MODE_RUNS);
 }
 
-static enum second_number instruct(uint32_t set, const uint8_t *program, size_t program_len,
-                                   uint8_t *ram, size_t ram_len, struct second_state *s,
-                                   uint32_t first, uint32_t second, struct second_outcome *outcome)
+static enum second_number instruct(uint32_t set, struct memory *m, uint8_t *ram, size_t ram_len,
+                                   struct second_state *s, uint32_t first, uint32_t second,
+                                   struct second_outcome *outcome)
 {
     uint16_t at = s->pc;
     uint16_t next = second_next_pc(at);
-    uint8_t operand = 0; /* the second byte */
+    uint8_t code = 0;
+    uint8_t operand = 0; /* the second byte, or JMPP's from its table */
     bool counted = true;
     uint8_t mode = SECOND_MODE_RUNS; /* "released" ends with the instruction */
 
     /* Refusals come before any change, those of a table byte further down too. */
-    if (at >= program_len)
+    if (!fetch(m, at, &code))
         return SECOND_PAST_END;
-    uint8_t code = program[at];
     const struct second_code *entry = &second_codes[code];
     if (!second_defined(set, entry))
         return SECOND_UNDEFINED_CODE;
     if (entry->length == 2) {
-        if (next >= program_len)
+        if (!fetch(m, next, &operand))
             return SECOND_PAST_END;
-        operand = program[next];
         next = second_next_pc(next);
     }
 
@@ -471,13 +501,11 @@ static enum second_number instruct(uint32_t set, const uint8_t *program, size_t 
     case SECOND_JMP:
         next = long_target(s, code, operand);
         break;
-    case SECOND_JMPP_AT_A: {
-        uint16_t table = jmpp_place(at, s->a);
-        if (table >= program_len)
+    case SECOND_JMPP_AT_A:
+        if (!fetch(m, jmpp_place(at, s->a), &operand))
             return SECOND_PAST_END;
-        next = jmpp_place(at, program[table]);
+        next = jmpp_place(at, operand);
         break;
-    }
     case SECOND_DJNZ_R:
         if (--*reg(s, ram, code) != 0)
             next = second_conditional_target(at, operand);
@@ -613,20 +641,14 @@ static enum second_number instruct(uint32_t set, const uint8_t *program, size_t 
     case SECOND_MOVX_AT_R_A:
         tell(outcome, SECOND_MOVX_WRITE, *bank_register(s, ram, code & 1), s->a);
         break;
-    case SECOND_MOVP_A_AT_A: {
-        uint16_t table = movp_place(at, s->a);
-        if (table >= program_len)
+    case SECOND_MOVP_A_AT_A:
+        if (!fetch(m, movp_place(at, s->a), &s->a))
             return SECOND_PAST_END;
-        s->a = program[table];
         break;
-    }
-    case SECOND_MOVP3_A_AT_A: {
-        uint16_t table = movp3_place(at, s->a);
-        if (table >= program_len)
+    case SECOND_MOVP3_A_AT_A:
+        if (!fetch(m, movp3_place(at, s->a), &s->a))
             return SECOND_PAST_END;
-        s->a = program[table];
         break;
-    }
 
     case SECOND_MOV_A_T:
         s->a = s->t;
@@ -691,13 +713,14 @@ static enum second_number instruct(uint32_t set, const uint8_t *program, size_t 
     else
         remember_t1(s, first);
     spend(outcome, entry->cycles);
+    outcome->outside = m->from_outside;
     return SECOND_ACCEPTED;
 }
 
 /* A step with set, lengths and state known to be good. */
-static enum second_number step(uint32_t set, const uint8_t *program, size_t program_len,
-                               uint8_t *ram, size_t ram_len, struct second_state *s, uint32_t first,
-                               uint32_t second, struct second_outcome *outcome)
+static enum second_number step(uint32_t set, struct memory m, uint8_t *ram, size_t ram_len,
+                               struct second_state *s, uint32_t first, uint32_t second,
+                               struct second_outcome *outcome)
 {
     bool waits = s->mode == SECOND_MODE_HALTED || s->mode == SECOND_MODE_STOPPED;
     bool released = s->mode == SECOND_MODE_RELEASED;
@@ -724,7 +747,8 @@ static enum second_number step(uint32_t set, const uint8_t *program, size_t prog
             return SECOND_ACCEPTED;
         }
     }
-    return instruct(set, program, program_len, ram, ram_len, s, first, second, outcome);
+    m.ea = pin_high(first, SECOND_PIN_EA);
+    return instruct(set, &m, ram, ram_len, s, first, second, outcome);
 }
 
 /* Checks that need no sample. A step keeps what they establish, so a run needs them once. */
@@ -739,12 +763,14 @@ static bool state_in_sizes(uint32_t set, const struct second_state *s)
            s->last_t1 <= 1 && s->t0_clock <= 1 && s->bus_driven <= 1 && s->mode <= last_mode;
 }
 
-static enum second_number check(uint32_t set, size_t program_len, size_t ram_len,
-                                const struct second_state *s)
+static enum second_number check(uint32_t set, size_t program_len, size_t outside_len,
+                                size_t ram_len, const struct second_state *s)
 {
     if (!second_set_known(set))
         return SECOND_SET_UNKNOWN;
     if (program_len != 1024 && program_len != 2048 && program_len != PROGRAM_MAX)
+        return SECOND_PROGRAM_LENGTH;
+    if (outside_len != 0 && outside_len != PROGRAM_MAX)
         return SECOND_PROGRAM_LENGTH;
     if (ram_len != 64 && ram_len != 128 && ram_len != 256)
         return SECOND_RAM_LENGTH;
@@ -754,31 +780,35 @@ static enum second_number check(uint32_t set, size_t program_len, size_t ram_len
 }
 
 struct second_outcome second_step(uint32_t set, const uint8_t *program, size_t program_len,
-                                  uint8_t *ram, size_t ram_len, struct second_state *state,
-                                  uint32_t first, uint32_t second)
+                                  const uint8_t *outside, size_t outside_len, uint8_t *ram,
+                                  size_t ram_len, struct second_state *state, uint32_t first,
+                                  uint32_t second)
 {
     struct second_outcome outcome = {0};
-    enum second_number number = check(set, program_len, ram_len, state);
+    struct memory memory = {program, program_len, outside, outside_len, false, 0};
+    enum second_number number = check(set, program_len, outside_len, ram_len, state);
 
     if (number == SECOND_ACCEPTED)
-        number = step(set, program, program_len, ram, ram_len, state, first, second, &outcome);
+        number = step(set, memory, ram, ram_len, state, first, second, &outcome);
     outcome.number = (uint8_t)number;
     return outcome;
 }
 
 struct second_totals second_run(uint32_t set, const uint8_t *program, size_t program_len,
-                                uint8_t *ram, size_t ram_len, struct second_state *state,
-                                const uint32_t *samples, size_t samples_len)
+                                const uint8_t *outside, size_t outside_len, uint8_t *ram,
+                                size_t ram_len, struct second_state *state, const uint32_t *samples,
+                                size_t samples_len)
 {
-    enum second_number number = check(set, program_len, ram_len, state);
+    struct memory memory = {program, program_len, outside, outside_len, false, 0};
+    enum second_number number = check(set, program_len, outside_len, ram_len, state);
     size_t used = 0;
     uint64_t cycles = 0;
 
     while (number == SECOND_ACCEPTED && samples_len - used >= 2) {
         struct second_outcome outcome = {0};
+        const uint32_t *pair = samples + used;
 
-        number = step(set, program, program_len, ram, ram_len, state, samples[used],
-                      samples[used + 1], &outcome);
+        number = step(set, memory, ram, ram_len, state, pair[0], pair[1], &outcome);
         used += outcome.samples;
         cycles += outcome.cycles;
     }

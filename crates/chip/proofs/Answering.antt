@@ -9,11 +9,11 @@ use native.Mathlib.Omega.{arith}
 use lib.Dec.{eqb}
 use lib.ListN.{set}
 use borrow.Author.Tests.{eqb-true, eqb-false, not-true}
-use Rattle.isa.specs.Reading.{Program}
 use Rattle.isa.specs.Sets.{Standby}
 use Rattle.isa.specs.declared.Instruction.{Instruction}
 use Rattle.machine.specs.Mode.{isRunning, isWaiting}
 use Rattle.machine.specs.Pins.{intPin, resetPin, isLow}
+use Rattle.machine.specs.Rom.{Roms}
 use Rattle.machine.specs.State.{countOf}
 use Rattle.machine.specs.declared.Count.{Count}
 use Rattle.machine.specs.declared.Mode.the-variants.{Running}
@@ -44,17 +44,17 @@ second-before c first second = refl
 
 -- The timer interrupt is enabled in a step's cycles exactly if it is after the step.
 pub step-enabled :
-    {program : Program} {ram : List ℕ} {s : State} {k : Progress} (first second : ℕ) (h : Steps program ram s k) (a : planAt program k first second .number ≡ 0)
-    (i : ℕ) → k .cycles < i → cycle (more first second h a) i .enabled ≡ after program k first second .state .interrupts .tcnti
-step-enabled {program} {k = k} first second h a i b = go (eqb i (k .cycles + 1)) refl
+    {roms : Roms} {ram : List ℕ} {s : State} {k : Progress} (first second : ℕ) (h : Steps roms ram s k) (a : planAt roms k first second .number ≡ 0)
+    (i : ℕ) → k .cycles < i → cycle (more first second h a) i .enabled ≡ after roms k first second .state .interrupts .tcnti
+step-enabled {roms} {k = k} first second h a i b = go (eqb i (k .cycles + 1)) refl
   where
-    go : (x : Bool) → eqb i (k .cycles + 1) ≡ x → cycle (more first second h a) i .enabled ≡ after program k first second .state .interrupts .tcnti
+    go : (x : Bool) → eqb i (k .cycles + 1) ≡ x → cycle (more first second h a) i .enabled ≡ after roms k first second .state .interrupts .tcnti
     go true e =
-        ap (λ (z : Cycle). z .enabled) (cycle-first first second h a i b (eqb-true _ _ e)) ∙ first-enabled (courseAt program k first second) first
-        ∙ sym (ends-enabled program k first second a)
+        ap (λ (z : Cycle). z .enabled) (cycle-first first second h a i b (eqb-true _ _ e)) ∙ first-enabled (courseAt roms k first second) first
+        ∙ sym (ends-enabled roms k first second a)
     go false e =
         ap (λ (z : Cycle). z .enabled) (cycle-second first second h a i b (eqb-false _ _ e))
-        ∙ second-enabled (courseAt program k first second) first second ∙ sym (ends-enabled program k first second a)
+        ∙ second-enabled (courseAt roms k first second) first second ∙ sym (ends-enabled roms k first second a)
 
 -- What a cycle leaves alone of a stored request and of TF.
 keeps-request : (x : Cycle) → x .before .request ≡ true → afterwards x .request ≡ true
@@ -69,76 +69,76 @@ or-right true y h = refl
 or-right false y h = h
 
 -- ---- the step with the overflow
-module _ {program : Program} {ram : List ℕ} {s : State} {k : Progress} (c : ℕ) (small : c < 256) (first second : ℕ) (h : Steps program ram s k)
-    (a : planAt program k first second .number ≡ 0) (u : AllUndisturbed (more first second h a)) (r : Going c 0 s)
-    (b : k .cycles < overflowCycle c) (g : overflowCycle c ≤ k .cycles + planAt program k first second .cycles) where
+module _ {roms : Roms} {ram : List ℕ} {s : State} {k : Progress} (c : ℕ) (small : c < 256) (first second : ℕ) (h : Steps roms ram s k)
+    (a : planAt roms k first second .number ≡ 0) (u : AllUndisturbed (more first second h a)) (r : Going c 0 s)
+    (b : k .cycles < overflowCycle c) (g : overflowCycle c ≤ k .cycles + planAt roms k first second .cycles) where
   before-step : Going c (k .cycles) (k .state)
   before-step = count-law c h (u .0) r
 
   positive : 1 ≤ overflowCycle c
   positive = omega arith
 
-  in-first : overflowCycle c ≡ k .cycles + 1 → Overflowing (firstCycle (courseAt program k first second) first)
+  in-first : overflowCycle c ≡ k .cycles + 1 → Overflowing (firstCycle (courseAt roms k first second) first)
   in-first e =
       overflowing c (overflowCycle c) _ positive
-      (subst (λ (j : ℕ). Counts c j (firstCycle (courseAt program k first second) first)) (sym e) (first-counts program k first second a (u .1) c (k .cycles) before-step))
+      (subst (λ (j : ℕ). Counts c j (firstCycle (courseAt roms k first second) first)) (sym e) (first-counts roms k first second a (u .1) c (k .cycles) before-step))
       (first-hit c small)
 
-  in-second : overflowCycle c ≡ k .cycles + 1 + 1 → Overflowing (secondCycle (courseAt program k first second) first second)
+  in-second : overflowCycle c ≡ k .cycles + 1 + 1 → Overflowing (secondCycle (courseAt roms k first second) first second)
   in-second e =
       overflowing c (overflowCycle c) _ positive
-      (subst (λ (j : ℕ). Counts c j (secondCycle (courseAt program k first second) first second)) (sym e) (second-counts program k first second a (u .1) c (k .cycles) before-step))
+      (subst (λ (j : ℕ). Counts c j (secondCycle (courseAt roms k first second) first second)) (sym e) (second-counts roms k first second a (u .1) c (k .cycles) before-step))
       (first-hit c small)
 
   -- What holds of the counter after the overflow, and stays through a cycle, holds after the step: the overflow may be in either cycle.
   left :
       (P : Count → Type 0) → ((x : Cycle) → P (x .before) → P (afterwards x))
-      → (overflowCycle c ≡ k .cycles + 1 → P (afterwards (firstCycle (courseAt program k first second) first)))
-      → (overflowCycle c ≡ k .cycles + 1 + 1 → P (afterwards (secondCycle (courseAt program k first second) first second)))
-      → P (countOf (after program k first second .state))
-  left P stays one two = go (eqb (overflowCycle c) (k .cycles + 1)) (eqb (planAt program k first second .cycles) 2) refl refl
+      → (overflowCycle c ≡ k .cycles + 1 → P (afterwards (firstCycle (courseAt roms k first second) first)))
+      → (overflowCycle c ≡ k .cycles + 1 + 1 → P (afterwards (secondCycle (courseAt roms k first second) first second)))
+      → P (countOf (after roms k first second .state))
+  left P stays one two = go (eqb (overflowCycle c) (k .cycles + 1)) (eqb (planAt roms k first second .cycles) 2) refl refl
     where
       go :
-          (x y : Bool) → eqb (overflowCycle c) (k .cycles + 1) ≡ x → eqb (planAt program k first second .cycles) 2 ≡ y
-          → P (countOf (after program k first second .state))
+          (x y : Bool) → eqb (overflowCycle c) (k .cycles + 1) ≡ x → eqb (planAt roms k first second .cycles) 2 ≡ y
+          → P (countOf (after roms k first second .state))
       go true true e f =
-          subst P (sym (ends-second program k first second a (eqb-true _ _ f)))
-          (stays (secondCycle (courseAt program k first second) first second)
-          (subst P (sym (second-before (courseAt program k first second) first second)) (one (eqb-true _ _ e))))
+          subst P (sym (ends-second roms k first second a (eqb-true _ _ f)))
+          (stays (secondCycle (courseAt roms k first second) first second)
+          (subst P (sym (second-before (courseAt roms k first second) first second)) (one (eqb-true _ _ e))))
       go true false e f =
-          let d : planAt program k first second .cycles ≡ 2 → ⊥ = eqb-false _ _ f in
-          let o = two-at-most program k first second a in
-          let w : planAt program k first second .cycles ≡ 1 = omega (arith, o, d, b, g) in
-          subst P (sym (ends-first program k first second a w)) (one (eqb-true _ _ e))
+          let d : planAt roms k first second .cycles ≡ 2 → ⊥ = eqb-false _ _ f in
+          let o = two-at-most roms k first second a in
+          let w : planAt roms k first second .cycles ≡ 1 = omega (arith, o, d, b, g) in
+          subst P (sym (ends-first roms k first second a w)) (one (eqb-true _ _ e))
       go false true e f =
           let d : overflowCycle c ≡ k .cycles + 1 → ⊥ = eqb-false _ _ e in
-          let w : planAt program k first second .cycles ≡ 2 = eqb-true _ _ f in
+          let w : planAt roms k first second .cycles ≡ 2 = eqb-true _ _ f in
           let v : overflowCycle c ≡ k .cycles + 1 + 1 = omega arith in
-          subst P (sym (ends-second program k first second a w)) (two v)
+          subst P (sym (ends-second roms k first second a w)) (two v)
       go false false e f =
           let d : overflowCycle c ≡ k .cycles + 1 → ⊥ = eqb-false _ _ e in
-          let d' : planAt program k first second .cycles ≡ 2 → ⊥ = eqb-false _ _ f in
-          let o = two-at-most program k first second a in
-          let w : planAt program k first second .cycles ≡ 1 = omega (arith, o, d', b, g) in
+          let d' : planAt roms k first second .cycles ≡ 2 → ⊥ = eqb-false _ _ f in
+          let o = two-at-most roms k first second a in
+          let w : planAt roms k first second .cycles ≡ 1 = omega (arith, o, d', b, g) in
           absurd (omega arith)
 
   -- It leaves TF set,
-  pub left-tf : after program k first second .state .tf ≡ true
+  pub left-tf : after roms k first second .state .tf ≡ true
   left-tf = left (λ (y : Count). y .tf ≡ true) keeps-tf (λ e. in-first e .tf) (λ e. in-second e .tf)
 
   -- and, if the timer interrupt is enabled in the overflow's cycle, a request, and the interrupt enabled.
   module _ (on : cycle (more first second h a) (overflowCycle c) .enabled ≡ true) where
-    course-on : courseAt program k first second .state .interrupts .tcnti ≡ true
-    course-on = sym (ends-enabled program k first second a) ∙ sym (step-enabled first second h a (overflowCycle c) b) ∙ on
+    course-on : courseAt roms k first second .state .interrupts .tcnti ≡ true
+    course-on = sym (ends-enabled roms k first second a) ∙ sym (step-enabled first second h a (overflowCycle c) b) ∙ on
 
-    left-enabled : after program k first second .state .interrupts .tcnti ≡ true
-    left-enabled = ends-enabled program k first second a ∙ course-on
+    left-enabled : after roms k first second .state .interrupts .tcnti ≡ true
+    left-enabled = ends-enabled roms k first second a ∙ course-on
 
-    pub left-request : after program k first second .state .request ≡ true
+    pub left-request : after roms k first second .state .request ≡ true
     left-request =
         left (λ (y : Count). y .request ≡ true) keeps-request
-        (λ e. in-first e .request ∙ or-right (firstCycle (courseAt program k first second) first .before .request) _ (first-enabled (courseAt program k first second) first ∙ course-on))
-        (λ e. in-second e .request ∙ or-right (secondCycle (courseAt program k first second) first second .before .request) _ (second-enabled (courseAt program k first second) first second ∙ course-on))
+        (λ e. in-first e .request ∙ or-right (firstCycle (courseAt roms k first second) first .before .request) _ (first-enabled (courseAt roms k first second) first ∙ course-on))
+        (λ e. in-second e .request ∙ or-right (secondCycle (courseAt roms k first second) first second .before .request) _ (second-enabled (courseAt roms k first second) first second ∙ course-on))
 
 -- ---- the step that finds a request
 record Calls (z c : Course) : Type 0 where
@@ -149,11 +149,11 @@ unfolding declined
 declined-calls z n s h = record { calls = λ e. absurd (h e) }
 
 course-calls :
-    (program : Program) (ram : List ℕ) (s : State) (first second : ℕ) → isLow resetPin first ≡ false → isWaiting (s .mode) ≡ false
+    (roms : Roms) (ram : List ℕ) (s : State) (first second : ℕ) → isLow resetPin first ≡ false → isWaiting (s .mode) ≡ false
     → externalCalls s first ≡ false → timerCalls s ≡ true
-    → Calls (accepted (called (withoutRequest s) 7) 2) (course program ram s first second)
+    → Calls (accepted (called (withoutRequest s) 7) 2) (course roms ram s first second)
 unfolding course
-course-calls program ram s first second r h e t =
+course-calls roms ram s first second r h e t =
     either (Calls _) _ _ _ (λ w. declined-calls _ _ s (eqb-false _ _ (not-true _ w)))
     (λ w. either (Calls _) _ _ _ (λ v. absurd (false≢true (sym r ∙ v)))
     (λ v. either (Calls _) _ _ _ (λ g. absurd (false≢true (sym h ∙ g)))
@@ -220,54 +220,54 @@ unfolding written
 pair-written ram w at low high e = rw e
 
 -- A step that finds a request, with nothing in service and no external interrupt, is the call, and no overflow falls into it.
-module _ (program : Program) (k : Progress) (first second : ℕ) (a : planAt program k first second .number ≡ 0)
-    (q : Undisturbed program (k .state) first) (v : k .state .mode ≡ Running) (e : externalCalls (k .state) first ≡ false)
+module _ (roms : Roms) (k : Progress) (first second : ℕ) (a : planAt roms k first second .number ≡ 0)
+    (q : Undisturbed roms (k .state) first) (v : k .state .mode ≡ Running) (e : externalCalls (k .state) first ≡ false)
     (t : timerCalls (k .state) ≡ true)
     (c n : ℕ) (small : c < 256) (h : Going c n (k .state)) (l : overflowCycle c ≤ n) (g : n + 1 + 1 ≤ overflowCycle c + 3) where
-  the-call : courseAt program k first second ≡ accepted (called (withoutRequest (k .state)) 7) 2
-  the-call = course-calls program (k .ram) (k .state) first second (q .no-reset) (ap isWaiting v) e t .calls (accepted-course program k first second a)
+  the-call : courseAt roms k first second ≡ accepted (called (withoutRequest (k .state)) 7) 2
+  the-call = course-calls roms (k .ram) (k .state) first second (q .no-reset) (ap isWaiting v) e t .calls (accepted-course roms k first second a)
 
-  two-cycles : planAt program k first second .cycles ≡ 2
-  two-cycles = sym (same-cycles program k first second a) ∙ ap (λ (x : Course). x .cycles) the-call ∙ call-cycles (k .state)
+  two-cycles : planAt roms k first second .cycles ≡ 2
+  two-cycles = sym (same-cycles roms k first second a) ∙ ap (λ (x : Course). x .cycles) the-call ∙ call-cycles (k .state)
 
-  first-none : firstCycle (courseAt program k first second) first .before .request ≡ false
+  first-none : firstCycle (courseAt roms k first second) first .before .request ≡ false
   first-none =
-      first-request (courseAt program k first second) first ∙ ap (λ (x : Course). x .state .request) the-call ∙ call-request (k .state)
+      first-request (courseAt roms k first second) first ∙ ap (λ (x : Course). x .state .request) the-call ∙ call-request (k .state)
 
   first-leaves :
-      afterwards (firstCycle (courseAt program k first second) first) .request
-      ≡ firstCycle (courseAt program k first second) first .before .request
+      afterwards (firstCycle (courseAt roms k first second) first) .request
+      ≡ firstCycle (courseAt roms k first second) first .before .request
   first-leaves =
-      calm c (n + 1) _ (omega arith) (first-counts program k first second a q c n h)
+      calm c (n + 1) _ (omega arith) (first-counts roms k first second a q c n h)
       (calm-after c (n + 1) small (omega arith) (omega arith)) .request
 
   second-leaves :
-      afterwards (secondCycle (courseAt program k first second) first second) .request
-      ≡ secondCycle (courseAt program k first second) first second .before .request
+      afterwards (secondCycle (courseAt roms k first second) first second) .request
+      ≡ secondCycle (courseAt roms k first second) first second .before .request
   second-leaves =
-      calm c (n + 1 + 1) _ (omega arith) (second-counts program k first second a q c n h)
+      calm c (n + 1 + 1) _ (omega arith) (second-counts roms k first second a q c n h)
       (calm-after c (n + 1 + 1) small (omega arith) (omega arith)) .request
 
-  answered : CallTo7 program k first second
+  answered : CallTo7 roms k first second
   answered =
       record {
         call = the-call;
         pc =
-            ap (λ (s : State). s .pc) (is-settled program k first second a)
-            ∙ settled-pc (courseAt program k first second .state) _ _ first second
+            ap (λ (s : State). s .pc) (is-settled roms k first second a)
+            ∙ settled-pc (courseAt roms k first second .state) _ _ first second
             ∙ ap (λ (x : Course). x .state .pc) the-call ∙ call-pc (k .state);
         request =
-            ap (λ (x : Count). x .request) (ends-second program k first second a two-cycles) ∙ second-leaves
-            ∙ ap (λ (x : Count). x .request) (second-before (courseAt program k first second) first second) ∙ first-leaves ∙ first-none;
+            ap (λ (x : Count). x .request) (ends-second roms k first second a two-cycles) ∙ second-leaves
+            ∙ ap (λ (x : Count). x .request) (second-before (courseAt roms k first second) first second) ∙ first-leaves ∙ first-none;
         service =
-            ap (λ (s : State). s .interrupts .service) (is-settled program k first second a)
-            ∙ settled-service (courseAt program k first second .state) _ _ first second
+            ap (λ (s : State). s .interrupts .service) (is-settled roms k first second a)
+            ∙ settled-service (courseAt roms k first second .state) _ _ first second
             ∙ ap (λ (x : Course). x .state .interrupts .service) the-call ∙ call-service (k .state);
         cycles = two-cycles;
-        used = same-used program k first second a (omega (arith, two-cycles)) ∙ two-cycles;
+        used = same-used roms k first second a (omega (arith, two-cycles)) ∙ two-cycles;
         memory =
             pair-written (k .ram) _ _ _ _
-            (plan-write (courseAt program k first second) (k .state) first second (accepted-course program k first second a)
+            (plan-write (courseAt roms k first second) (k .state) first second (accepted-course roms k first second a)
             ∙ ap (λ (x : Course). x .write) the-call ∙ call-write (k .state));
       }
 
@@ -275,28 +275,28 @@ module _ (program : Program) (k : Progress) (first second : ℕ) (a : planAt pro
 -- interrupt is enabled in the overflow's cycle, all conditions hold through the next step, and at that step's start no interrupt is in
 -- service and the external one is disabled or INT is high, and the step with the overflow is neither HALT nor STOP, then the next step is the
 -- call to 7, and it ends at most 3 cycles after the overflow.
-module _ {program : Program} {ram : List ℕ} {s : State} {k : Progress} (c : ℕ) (small : c < 256) (r : Going c 0 s) (h : Steps program ram s k)
-    (first second : ℕ) (a : planAt program k first second .number ≡ 0)
-    (b : k .cycles < overflowCycle c) (g : overflowCycle c ≤ k .cycles + planAt program k first second .cycles)
+module _ {roms : Roms} {ram : List ℕ} {s : State} {k : Progress} (c : ℕ) (small : c < 256) (r : Going c 0 s) (h : Steps roms ram s k)
+    (first second : ℕ) (a : planAt roms k first second .number ≡ 0)
+    (b : k .cycles < overflowCycle c) (g : overflowCycle c ≤ k .cycles + planAt roms k first second .cycles)
     (on : cycle (more first second h a) (overflowCycle c) .enabled ≡ true)
-    (first' second' : ℕ) (a' : planAt program (after program k first second) first' second' .number ≡ 0)
+    (first' second' : ℕ) (a' : planAt roms (after roms k first second) first' second' .number ≡ 0)
     (u : AllUndisturbed (more first' second' (more first second h a) a'))
-    (idle : after program k first second .state .interrupts .service ≡ false)
-    (off : (after program k first second .state .interrupts .external ≡ false) ⊎ (isLow intPin first' ≡ false))
-    (awake : (i : Instruction) → CarriesOut program (k .state) first i → Standby i → ⊥) where
+    (idle : after roms k first second .state .interrupts .service ≡ false)
+    (off : (after roms k first second .state .interrupts .external ≡ false) ⊎ (isLow intPin first' ≡ false))
+    (awake : (i : Instruction) → CarriesOut roms (k .state) first i → Standby i → ⊥) where
   -- The step with the overflow leaves the machine running.
-  left-running : after program k first second .state .mode ≡ Running
-  left-running = runs-after program (k .ram) (k .state) first second awake a (omega (arith, b, g))
+  left-running : after roms k first second .state .mode ≡ Running
+  left-running = runs-after roms (k .ram) (k .state) first second awake a (omega (arith, b, g))
 
-  pub call-law : CallTo7 program (after program k first second) first' second'
+  pub call-law : CallTo7 roms (after roms k first second) first' second'
   call-law =
-      let o = two-at-most program k first second a in
-      answered program (after program k first second) first' second' a' (u .1) left-running (external-off (after program k first second .state) first' off)
-      (timer-on (after program k first second .state) left-running idle (left-enabled c small first second h a (u .0) r b g on) (left-request c small first second h a (u .0) r b g on))
-      c (k .cycles + planAt program k first second .cycles) small (count-law c (more first second h a) (u .0) r) g (omega (arith, o, b))
+      let o = two-at-most roms k first second a in
+      answered roms (after roms k first second) first' second' a' (u .1) left-running (external-off (after roms k first second .state) first' off)
+      (timer-on (after roms k first second .state) left-running idle (left-enabled c small first second h a (u .0) r b g on) (left-request c small first second h a (u .0) r b g on))
+      c (k .cycles + planAt roms k first second .cycles) small (count-law c (more first second h a) (u .0) r) g (omega (arith, o, b))
 
-  pub within-3 : k .cycles + planAt program k first second .cycles + planAt program (after program k first second) first' second' .cycles ≤ overflowCycle c + 3
+  pub within-3 : k .cycles + planAt roms k first second .cycles + planAt roms (after roms k first second) first' second' .cycles ≤ overflowCycle c + 3
   within-3 =
-      let o = two-at-most program k first second a in
+      let o = two-at-most roms k first second a in
       let w = call-law .cycles in
       omega (arith, o, w, b)

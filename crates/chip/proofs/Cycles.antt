@@ -13,6 +13,7 @@ use Rattle.isa.specs.Reading.{Program, Sized, sized, instructionAt}
 use Rattle.isa.specs.declared.Instruction.{Instruction}
 use Rattle.isa.proofs.Finding.{refused-some}
 use Rattle.machine.specs.Counting.{counted}
+use Rattle.machine.specs.Rom.{Roms, seenBy}
 use Rattle.machine.specs.State.{countOf, runningAt}
 use Rattle.machine.specs.declared.Count.{Count}
 use Rattle.machine.specs.declared.Counting.{Counting}
@@ -89,17 +90,19 @@ carried-still program ram s first second f = go (instructionAt program (s .pc)) 
         done-still s _ _ (k .setting (f i n e), k .counted (f i n e))
 
 course-still :
-    (program : Program) (ram : List ℕ) (s : State) (first second : ℕ) → Undisturbed program s first → Still s (course program ram s first second)
+    (roms : Roms) (ram : List ℕ) (s : State) (first second : ℕ) → Undisturbed roms s first → Still s (course roms ram s first second)
 unfolding course
-course-still program ram s first second u =
+course-still roms ram s first second u =
     either (Still s) _ _ _ (λ t. declined-still s _ s (eqb-false _ _ (not-true _ t)))
     (λ t. either (Still s) _ _ _ (λ v. absurd (false≢true (sym (u .no-reset) ∙ v)))
     (λ v. either (Still s) _ _ _ (λ h. waits-still s first)
     (λ h. either (Still s) _ _ _ (λ w. accepted-still s _ 2 (called-keeps s 3))
     (λ w. either (Still s) _ _ _
     (λ x. accepted-still s _ 2 (called-keeps (withoutRequest s) 7 .0 ∙ request-keeps s, called-keeps (withoutRequest s) 7 .1))
-    (λ x. carried-still program ram s first second
-    (λ i n e. u .none-of-four i (record { no-reset = v; no-wait = h; no-external = w; no-timer = x; bytes = n; stands = e })))))))
+    (λ x.
+    let c = carried-still (seenBy roms first) ram s first second
+    (λ i n e. u .none-of-four i (record { no-reset = v; no-wait = h; no-external = w; no-timer = x; bytes = n; stands = e })) in
+    record { setting = c .setting; counts = c .counts })))))
 
 -- ---- an accepted step is its course, and then its cycles counted
 record Takes (c : Course) (p : Plan) : Type 0 where
@@ -176,103 +179,103 @@ counts-one c n x e f h =
           (one-more c n (x .before) (x .t1) (x .enabled) h));
     }
 
-module _ (program : Program) (k : Progress) (first second : ℕ) (a : planAt program k first second .number ≡ 0) where
-  spent : Spends (planAt program k first second .cycles) (planAt program k first second .used)
-  spent = plan-busy program (k .ram) (k .state) first second .spends a
+module _ (roms : Roms) (k : Progress) (first second : ℕ) (a : planAt roms k first second .number ≡ 0) where
+  spent : Spends (planAt roms k first second .cycles) (planAt roms k first second .used)
+  spent = plan-busy roms (k .ram) (k .state) first second .spends a
 
   -- An accepted step takes two cycles at most, and uses one sample or two.
-  pub two-at-most : planAt program k first second .cycles ≤ 2
+  pub two-at-most : planAt roms k first second .cycles ≤ 2
   two-at-most = go spent
     where
-      go : Spends (planAt program k first second .cycles) (planAt program k first second .used) → planAt program k first second .cycles ≤ 2
+      go : Spends (planAt roms k first second .cycles) (planAt roms k first second .used) → planAt roms k first second .cycles ≤ 2
       go (in-cycles l g e) = g
       go (in-waiting e f) = omega arith
 
-  pub one-or-two : (1 ≤ planAt program k first second .used) × (planAt program k first second .used ≤ 2)
+  pub one-or-two : (1 ≤ planAt roms k first second .used) × (planAt roms k first second .used ≤ 2)
   one-or-two = go spent
     where
       go :
-          Spends (planAt program k first second .cycles) (planAt program k first second .used)
-          → (1 ≤ planAt program k first second .used) × (planAt program k first second .used ≤ 2)
+          Spends (planAt roms k first second .cycles) (planAt roms k first second .used)
+          → (1 ≤ planAt roms k first second .used) × (planAt roms k first second .used ≤ 2)
       go (in-cycles l g e) = (omega arith, omega arith)
       go (in-waiting e f) = (omega arith, omega arith)
 
-  pub cycles-used : planAt program k first second .cycles ≤ planAt program k first second .used
+  pub cycles-used : planAt roms k first second .cycles ≤ planAt roms k first second .used
   cycles-used = go spent
     where
-      go : Spends (planAt program k first second .cycles) (planAt program k first second .used) → planAt program k first second .cycles ≤ planAt program k first second .used
+      go : Spends (planAt roms k first second .cycles) (planAt roms k first second .used) → planAt roms k first second .cycles ≤ planAt roms k first second .used
       go (in-cycles l g e) = omega arith
       go (in-waiting e f) = omega arith
 
-  pub same-used : 1 ≤ planAt program k first second .cycles → planAt program k first second .used ≡ planAt program k first second .cycles
+  pub same-used : 1 ≤ planAt roms k first second .cycles → planAt roms k first second .used ≡ planAt roms k first second .cycles
   same-used some = go spent
     where
-      go : Spends (planAt program k first second .cycles) (planAt program k first second .used) → planAt program k first second .used ≡ planAt program k first second .cycles
+      go : Spends (planAt roms k first second .cycles) (planAt roms k first second .used) → planAt roms k first second .used ≡ planAt roms k first second .cycles
       go (in-cycles l g e) = e
       go (in-waiting e f) = absurd (omega arith)
 
   -- One sample a cycle, and one for a step without any.
-  pub samples-used : planAt program k first second .used ≡ planAt program k first second .cycles + oneIf (eqb (planAt program k first second .cycles) 0)
+  pub samples-used : planAt roms k first second .used ≡ planAt roms k first second .cycles + oneIf (eqb (planAt roms k first second .cycles) 0)
   samples-used = go spent
     where
       go :
-          Spends (planAt program k first second .cycles) (planAt program k first second .used)
-          → planAt program k first second .used ≡ planAt program k first second .cycles + oneIf (eqb (planAt program k first second .cycles) 0)
-      go (in-cycles l g e) = rw (e, ne-eqb (planAt program k first second .cycles) 0 (λ z. omega arith)) (omega arith)
+          Spends (planAt roms k first second .cycles) (planAt roms k first second .used)
+          → planAt roms k first second .used ≡ planAt roms k first second .cycles + oneIf (eqb (planAt roms k first second .cycles) 0)
+      go (in-cycles l g e) = rw (e, ne-eqb (planAt roms k first second .cycles) 0 (λ z. omega arith)) (omega arith)
       go (in-waiting e f) = rw (e, f)
 
-  pub accepted-course : courseAt program k first second .number ≡ 0
-  accepted-course = course-number (courseAt program k first second) (k .state) first second a
+  pub accepted-course : courseAt roms k first second .number ≡ 0
+  accepted-course = course-number (courseAt roms k first second) (k .state) first second a
 
   pub is-settled :
-      after program k first second .state
-      ≡ settled (courseAt program k first second .state) (courseAt program k first second .cycles) (courseAt program k first second .fresh) first second
-  is-settled = plan-state (courseAt program k first second) (k .state) first second accepted-course
+      after roms k first second .state
+      ≡ settled (courseAt roms k first second .state) (courseAt roms k first second .cycles) (courseAt roms k first second .fresh) first second
+  is-settled = plan-state (courseAt roms k first second) (k .state) first second accepted-course
 
-  pub same-cycles : courseAt program k first second .cycles ≡ planAt program k first second .cycles
-  same-cycles = sym (plan-cycles (courseAt program k first second) (k .state) first second accepted-course)
+  pub same-cycles : courseAt roms k first second .cycles ≡ planAt roms k first second .cycles
+  same-cycles = sym (plan-cycles (courseAt roms k first second) (k .state) first second accepted-course)
 
-  pub ends-enabled : after program k first second .state .interrupts .tcnti ≡ courseAt program k first second .state .interrupts .tcnti
-  ends-enabled = ap (λ (s : State). s .interrupts .tcnti) is-settled ∙ settled-timer (courseAt program k first second .state) _ _ first second
+  pub ends-enabled : after roms k first second .state .interrupts .tcnti ≡ courseAt roms k first second .state .interrupts .tcnti
+  ends-enabled = ap (λ (s : State). s .interrupts .tcnti) is-settled ∙ settled-timer (courseAt roms k first second .state) _ _ first second
 
   -- A step without a cycle is a wait, and leaves the counter.
-  pub waits-then : planAt program k first second .cycles ≡ 0 → courseAt program k first second ≡ waits (k .state) first
+  pub waits-then : planAt roms k first second .cycles ≡ 0 → courseAt roms k first second ≡ waits (k .state) first
   waits-then e =
-      waits-only program (k .ram) (k .state) first second
-      (idle-waits program (k .ram) (k .state) first second accepted-course (same-cycles ∙ e))
+      waits-only roms (k .ram) (k .state) first second
+      (idle-waits roms (k .ram) (k .state) first second accepted-course (same-cycles ∙ e))
 
-  pub ends-waiting : planAt program k first second .cycles ≡ 0 → after program k first second .state ≡ released (k .state) first
+  pub ends-waiting : planAt roms k first second .cycles ≡ 0 → after roms k first second .state ≡ released (k .state) first
   ends-waiting e =
-      is-settled ∙ settled-none (courseAt program k first second) first second (same-cycles ∙ e)
+      is-settled ∙ settled-none (courseAt roms k first second) first second (same-cycles ∙ e)
       ∙ ap (λ (c : Course). c .state) (waits-then e) ∙ waits-state (k .state) first
 
-  pub ends-none : planAt program k first second .cycles ≡ 0 → countOf (after program k first second .state) ≡ countOf (k .state)
+  pub ends-none : planAt roms k first second .cycles ≡ 0 → countOf (after roms k first second .state) ≡ countOf (k .state)
   ends-none e = ap countOf (ends-waiting e) ∙ released-count (k .state) first
 
   -- The state after it has the counter of its last cycle.
   pub ends-first :
-      planAt program k first second .cycles ≡ 1
-      → countOf (after program k first second .state) ≡ afterwards (firstCycle (courseAt program k first second) first)
-  ends-first e = ap countOf is-settled ∙ settled-one (courseAt program k first second) first second (same-cycles ∙ e)
+      planAt roms k first second .cycles ≡ 1
+      → countOf (after roms k first second .state) ≡ afterwards (firstCycle (courseAt roms k first second) first)
+  ends-first e = ap countOf is-settled ∙ settled-one (courseAt roms k first second) first second (same-cycles ∙ e)
 
   pub ends-second :
-      planAt program k first second .cycles ≡ 2
-      → countOf (after program k first second .state) ≡ afterwards (secondCycle (courseAt program k first second) first second)
+      planAt roms k first second .cycles ≡ 2
+      → countOf (after roms k first second .state) ≡ afterwards (secondCycle (courseAt roms k first second) first second)
   ends-second e =
       ap countOf is-settled
-      ∙ settled-two (courseAt program k first second) first second
-      (course-once program (k .ram) (k .state) first second .once accepted-course (same-cycles ∙ e)) (same-cycles ∙ e)
+      ∙ settled-two (courseAt roms k first second) first second
+      (course-once roms (k .ram) (k .state) first second .once accepted-course (same-cycles ∙ e)) (same-cycles ∙ e)
 
-  module _ (u : Undisturbed program (k .state) first) where
-    still : Still (k .state) (courseAt program k first second)
-    still = course-still program (k .ram) (k .state) first second u
+  module _ (u : Undisturbed roms (k .state) first) where
+    still : Still (k .state) (courseAt roms k first second)
+    still = course-still roms (k .ram) (k .state) first second u
 
     -- ---- the count in the cycles of one step
     module _ (c n : ℕ) (h : Running c n (k .state)) where
-      course-counting : courseAt program k first second .state .counting ≡ Timer
+      course-counting : courseAt roms k first second .state .counting ≡ Timer
       course-counting = ap (λ (x : Setting). x .counting) (still .setting accepted-course) ∙ h .counting
 
-      first-before : At c n (firstCycle (courseAt program k first second) first .before)
+      first-before : At c n (firstCycle (courseAt roms k first second) first .before)
       unfolding firstCycle
       first-before =
           record {
@@ -280,89 +283,89 @@ module _ (program : Program) (k : Progress) (first second : ℕ) (a : planAt pro
             divider = ap (λ (x : Setting). x .divider) (still .setting accepted-course) ∙ h .at .divider;
           }
 
-      pub first-counts : Counts c (n + 1) (firstCycle (courseAt program k first second) first)
+      pub first-counts : Counts c (n + 1) (firstCycle (courseAt roms k first second) first)
       unfolding firstCycle
-      first-counts = counts-one c n (firstCycle (courseAt program k first second) first) course-counting (still .counts accepted-course) first-before
+      first-counts = counts-one c n (firstCycle (courseAt roms k first second) first) course-counting (still .counts accepted-course) first-before
 
-      pub second-counts : Counts c (n + 1 + 1) (secondCycle (courseAt program k first second) first second)
+      pub second-counts : Counts c (n + 1 + 1) (secondCycle (courseAt roms k first second) first second)
       unfolding secondCycle
-      second-counts = counts-one c (n + 1) (secondCycle (courseAt program k first second) first second) course-counting refl (first-counts .to)
+      second-counts = counts-one c (n + 1) (secondCycle (courseAt roms k first second) first second) course-counting refl (first-counts .to)
 
-      step-at : At c (n + planAt program k first second .cycles) (countOf (after program k first second .state))
-      step-at = go (eqb (planAt program k first second .cycles) 2) (eqb (planAt program k first second .cycles) 0) refl refl
+      step-at : At c (n + planAt roms k first second .cycles) (countOf (after roms k first second .state))
+      step-at = go (eqb (planAt roms k first second .cycles) 2) (eqb (planAt roms k first second .cycles) 0) refl refl
         where
           go :
-              (b d : Bool) → eqb (planAt program k first second .cycles) 2 ≡ b → eqb (planAt program k first second .cycles) 0 ≡ d
-              → At c (n + planAt program k first second .cycles) (countOf (after program k first second .state))
+              (b d : Bool) → eqb (planAt roms k first second .cycles) 2 ≡ b → eqb (planAt roms k first second .cycles) 0 ≡ d
+              → At c (n + planAt roms k first second .cycles) (countOf (after roms k first second .state))
           go true d e f =
-              let w : planAt program k first second .cycles ≡ 2 = eqb-true _ _ e in
-              let l : n + 1 + 1 ≡ n + planAt program k first second .cycles = omega arith in
-              subst (λ (x : Count). At c (n + planAt program k first second .cycles) x) (sym (ends-second w))
-              (subst (λ (i : ℕ). At c i (afterwards (secondCycle (courseAt program k first second) first second))) l (second-counts .to))
+              let w : planAt roms k first second .cycles ≡ 2 = eqb-true _ _ e in
+              let l : n + 1 + 1 ≡ n + planAt roms k first second .cycles = omega arith in
+              subst (λ (x : Count). At c (n + planAt roms k first second .cycles) x) (sym (ends-second w))
+              (subst (λ (i : ℕ). At c i (afterwards (secondCycle (courseAt roms k first second) first second))) l (second-counts .to))
           go false true e f =
-              let w : planAt program k first second .cycles ≡ 0 = eqb-true _ _ f in
-              let l : n ≡ n + planAt program k first second .cycles = omega arith in
-              subst (λ (x : Count). At c (n + planAt program k first second .cycles) x) (sym (ends-none w))
+              let w : planAt roms k first second .cycles ≡ 0 = eqb-true _ _ f in
+              let l : n ≡ n + planAt roms k first second .cycles = omega arith in
+              subst (λ (x : Count). At c (n + planAt roms k first second .cycles) x) (sym (ends-none w))
               (subst (λ (i : ℕ). At c i (countOf (k .state))) l (h .at))
           go false false e f =
-              let d : planAt program k first second .cycles ≡ 2 → ⊥ = eqb-false _ _ e in
-              let d' : planAt program k first second .cycles ≡ 0 → ⊥ = eqb-false _ _ f in
-              let w : planAt program k first second .cycles ≡ 1 = omega (arith, two-at-most, d, d') in
-              let l : n + 1 ≡ n + planAt program k first second .cycles = omega arith in
-              subst (λ (x : Count). At c (n + planAt program k first second .cycles) x) (sym (ends-first w))
-              (subst (λ (i : ℕ). At c i (afterwards (firstCycle (courseAt program k first second) first))) l (first-counts .to))
+              let d : planAt roms k first second .cycles ≡ 2 → ⊥ = eqb-false _ _ e in
+              let d' : planAt roms k first second .cycles ≡ 0 → ⊥ = eqb-false _ _ f in
+              let w : planAt roms k first second .cycles ≡ 1 = omega (arith, two-at-most, d, d') in
+              let l : n + 1 ≡ n + planAt roms k first second .cycles = omega arith in
+              subst (λ (x : Count). At c (n + planAt roms k first second .cycles) x) (sym (ends-first w))
+              (subst (λ (i : ℕ). At c i (afterwards (firstCycle (courseAt roms k first second) first))) l (first-counts .to))
 
-      pub step-running : Running c (n + planAt program k first second .cycles) (after program k first second .state)
+      pub step-running : Running c (n + planAt roms k first second .cycles) (after roms k first second .state)
       step-running =
           record {
-            counting = ap (λ (s : State). s .counting) is-settled ∙ settled-counting (courseAt program k first second .state) _ _ first second ∙ course-counting;
+            counting = ap (λ (s : State). s .counting) is-settled ∙ settled-counting (courseAt roms k first second .state) _ _ first second ∙ course-counting;
             at = step-at;
           }
 
 -- ---- the cycles of the last step of a history, and those before it
 pub cycle-before :
-    {program : Program} {ram : List ℕ} {s : State} {k : Progress} (first second : ℕ) (h : Steps program ram s k)
-    (a : planAt program k first second .number ≡ 0) (i : ℕ) → i ≤ k .cycles → cycle (more first second h a) i ≡ cycle h i
+    {roms : Roms} {ram : List ℕ} {s : State} {k : Progress} (first second : ℕ) (h : Steps roms ram s k)
+    (a : planAt roms k first second .number ≡ 0) (i : ℕ) → i ≤ k .cycles → cycle (more first second h a) i ≡ cycle h i
 unfolding cycle pick
 cycle-before {k = k} first second h a i l = rw (le-leb i (k .cycles) l)
 
-module _ {program : Program} {ram : List ℕ} {s : State} {k : Progress} (first second : ℕ) (h : Steps program ram s k)
-    (a : planAt program k first second .number ≡ 0) (i : ℕ) (b : k .cycles < i) where
-  pub cycle-first : i ≡ k .cycles + 1 → cycle (more first second h a) i ≡ firstCycle (courseAt program k first second) first
+module _ {roms : Roms} {ram : List ℕ} {s : State} {k : Progress} (first second : ℕ) (h : Steps roms ram s k)
+    (a : planAt roms k first second .number ≡ 0) (i : ℕ) (b : k .cycles < i) where
+  pub cycle-first : i ≡ k .cycles + 1 → cycle (more first second h a) i ≡ firstCycle (courseAt roms k first second) first
   unfolding cycle pick
   cycle-first e = rw (lt-leb i (k .cycles) b, eq-eqb i (k .cycles + 1) e)
 
-  pub cycle-second : (i ≡ k .cycles + 1 → ⊥) → cycle (more first second h a) i ≡ secondCycle (courseAt program k first second) first second
+  pub cycle-second : (i ≡ k .cycles + 1 → ⊥) → cycle (more first second h a) i ≡ secondCycle (courseAt roms k first second) first second
   unfolding cycle pick
   cycle-second e = rw (lt-leb i (k .cycles) b, ne-eqb i (k .cycles + 1) e)
 
 -- After any history that has a cycle the counter is that of its last cycle, counted or not.
 pub ends-last :
-    {program : Program} {ram : List ℕ} {s : State} {k : Progress} (h : Steps program ram s k) → 1 ≤ k .cycles
+    {roms : Roms} {ram : List ℕ} {s : State} {k : Progress} (h : Steps roms ram s k) → 1 ≤ k .cycles
     → countOf (k .state) ≡ afterwards (cycle h (k .cycles))
 ends-last none l = absurd (omega arith)
-ends-last {program} (more {k = k} first second h a) l =
-    go (λ g. ends-last h g) (eqb (planAt program k first second .cycles) 2) (eqb (planAt program k first second .cycles) 0) refl refl
+ends-last {roms} (more {k = k} first second h a) l =
+    go (λ g. ends-last h g) (eqb (planAt roms k first second .cycles) 2) (eqb (planAt roms k first second .cycles) 0) refl refl
   where
     go :
         (1 ≤ k .cycles → countOf (k .state) ≡ afterwards (cycle h (k .cycles)))
-        → (b d : Bool) → eqb (planAt program k first second .cycles) 2 ≡ b → eqb (planAt program k first second .cycles) 0 ≡ d
-        → countOf (after program k first second .state) ≡ afterwards (cycle (more first second h a) (k .cycles + planAt program k first second .cycles))
+        → (b d : Bool) → eqb (planAt roms k first second .cycles) 2 ≡ b → eqb (planAt roms k first second .cycles) 0 ≡ d
+        → countOf (after roms k first second .state) ≡ afterwards (cycle (more first second h a) (k .cycles + planAt roms k first second .cycles))
     go earlier true d e f =
-        let w : planAt program k first second .cycles ≡ 2 = eqb-true _ _ e in
-        ends-second program k first second a w ∙ ap afterwards (sym (cycle-second first second h a _ (omega arith) (λ z. omega arith)))
+        let w : planAt roms k first second .cycles ≡ 2 = eqb-true _ _ e in
+        ends-second roms k first second a w ∙ ap afterwards (sym (cycle-second first second h a _ (omega arith) (λ z. omega arith)))
     go earlier false true e f =
-        let w : planAt program k first second .cycles ≡ 0 = eqb-true _ _ f in
-        let n : k .cycles ≡ k .cycles + planAt program k first second .cycles = omega arith in
+        let w : planAt roms k first second .cycles ≡ 0 = eqb-true _ _ f in
+        let n : k .cycles ≡ k .cycles + planAt roms k first second .cycles = omega arith in
         let g : 1 ≤ k .cycles = omega (arith, l) in
-        ends-none program k first second a w ∙ earlier g
+        ends-none roms k first second a w ∙ earlier g
         ∙ ap afterwards (sym (cycle-before first second h a (k .cycles) (omega arith)) ∙ ap (cycle (more first second h a)) n)
     go earlier false false e f =
-        let d : planAt program k first second .cycles ≡ 2 → ⊥ = eqb-false _ _ e in
-        let d' : planAt program k first second .cycles ≡ 0 → ⊥ = eqb-false _ _ f in
-        let o = two-at-most program k first second a in
-        let w : planAt program k first second .cycles ≡ 1 = omega (arith, o, d, d') in
-        ends-first program k first second a w ∙ ap afterwards (sym (cycle-first first second h a _ (omega arith) (omega arith)))
+        let d : planAt roms k first second .cycles ≡ 2 → ⊥ = eqb-false _ _ e in
+        let d' : planAt roms k first second .cycles ≡ 0 → ⊥ = eqb-false _ _ f in
+        let o = two-at-most roms k first second a in
+        let w : planAt roms k first second .cycles ≡ 1 = omega (arith, o, d, d') in
+        ends-first roms k first second a w ∙ ap afterwards (sym (cycle-first first second h a _ (omega arith) (omega arith)))
 
 -- The counter just started, no cycle counted yet.
 pub at-start : (c : ℕ) (s : State) → c < 256 → JustStarted c s → Running c 0 s
@@ -373,29 +376,29 @@ at-start c s l h = record { counting = h .counting; at = record { t = h .t ∙ s
 
 -- After a history of n cycles the counter holds c + n / 32 modulo 256.
 pub count-law :
-    {program : Program} {ram : List ℕ} {s : State} {k : Progress} (c : ℕ) (h : Steps program ram s k) → AllUndisturbed h → Running c 0 s
+    {roms : Roms} {ram : List ℕ} {s : State} {k : Progress} (c : ℕ) (h : Steps roms ram s k) → AllUndisturbed h → Running c 0 s
     → Running c (k .cycles) (k .state)
 count-law c none u r = r
-count-law {program} c (more {k = k} first second h a) u r =
-    step-running program k first second a (u .1) c (k .cycles) (count-law c h (u .0) r)
+count-law {roms} c (more {k = k} first second h a) u r =
+    step-running roms k first second a (u .1) c (k .cycles) (count-law c h (u .0) r)
 
 -- And in each cycle of it, inside a step too.
 choose : (c i : ℕ) (b : Bool) (x y : Cycle) → (b ≡ true → Counts c i x) → (b ≡ false → Counts c i y) → Counts c i (pick b x y)
 choose c i b x y f g = either (Counts c i) b x y f g
 
 pub cycle-law :
-    {program : Program} {ram : List ℕ} {s : State} {k : Progress} (c : ℕ) (h : Steps program ram s k) → AllUndisturbed h → Running c 0 s
+    {roms : Roms} {ram : List ℕ} {s : State} {k : Progress} (c : ℕ) (h : Steps roms ram s k) → AllUndisturbed h → Running c 0 s
     → (i : ℕ) → 1 ≤ i → i ≤ k .cycles → Counts c i (cycle h i)
 unfolding cycle
 cycle-law c none u r i l g = absurd (omega arith)
-cycle-law {program} c (more {k = k} first second h a) u r i l g =
-    let o = two-at-most program k first second a in
+cycle-law {roms} c (more {k = k} first second h a) u r i l g =
+    let o = two-at-most roms k first second a in
     let t = count-law c h (u .0) r in
     choose c i (leb i (k .cycles)) _ _ (λ e. cycle-law c h (u .0) r i l (leb-true i (k .cycles) e))
     (λ e. choose c i (eqb i (k .cycles + 1)) _ _
-    (λ f. subst (λ (j : ℕ). Counts c j (firstCycle (courseAt program k first second) first)) (sym (eqb-true i (k .cycles + 1) f)) (first-counts program k first second a (u .1) c (k .cycles) t))
+    (λ f. subst (λ (j : ℕ). Counts c j (firstCycle (courseAt roms k first second) first)) (sym (eqb-true i (k .cycles + 1) f)) (first-counts roms k first second a (u .1) c (k .cycles) t))
     (λ f.
     let d : i ≡ k .cycles + 1 → ⊥ = eqb-false i (k .cycles + 1) f in
     let b : k .cycles < i = leb-false i (k .cycles) e in
     let w : k .cycles + 1 + 1 ≡ i = omega (arith, o) in
-    subst (λ (j : ℕ). Counts c j (secondCycle (courseAt program k first second) first second)) w (second-counts program k first second a (u .1) c (k .cycles) t)))
+    subst (λ (j : ℕ). Counts c j (secondCycle (courseAt roms k first second) first second)) w (second-counts roms k first second a (u .1) c (k .cycles) t)))

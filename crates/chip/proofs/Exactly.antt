@@ -10,13 +10,14 @@ use lib.ListN.{length}
 use borrow.Author.Tests.{eqb-true, eqb-false, ne-eqb}
 use Rattle.isa.specs.Choice.{pick}
 use Rattle.isa.specs.Numbers.{Answer, given, refused}
-use Rattle.isa.specs.Reading.{Program, entryAt, Sized, sized, lacks, nextPc, instructionAt, decodedAt}
-use Rattle.isa.specs.declared.DigitMove.the-variants.{MovdRead, MovdWrite, Orld, Anld}
+use Rattle.isa.specs.Reading.{entryAt, Sized, sized, lacks, nextPc, instructionAt, decodedAt}
 use Rattle.isa.specs.declared.Switch.the-variants.{EnI, DisI, Ent0Clk, SelMb0, SelMb1, SelRb0, SelRb1, EnTcnti, DisTcnti, StopTcnt, StrtCnt, StrtT}
 use Rattle.isa.specs.declared.Instruction.{Instruction}
 use Rattle.isa.specs.declared.Instruction.the-variants.{Alu, Accumulator, Djnz, Branch, Jmp, Jmpp, Control, MovA, Mov, MovData, MovAPsw, MovPswA, Movp, Movp3, MovxRead, MovxWrite, Xch, Xchd, Cpl, Clr, Logic, In, Outl, Expander, Dec, Inc, Call, Ret, Retr, MovAT, MovTA, Nop, Halt, Stop}
 use Rattle.machine.specs.Mode.{isWaiting}
-use Rattle.machine.specs.Pins.{resetPin, isLow}
+use Rattle.machine.specs.Pins.{resetPin, eaPin, isHigh, isLow}
+use Rattle.machine.specs.Rom.{Roms, seenBy}
+use Rattle.machine.proofs.Seeing.{visible-lacks}
 use Rattle.machine.specs.State.{permitted, runningAt}
 use Rattle.machine.specs.declared.State.{State}
 use Rattle.effects.specs.Effect.{Nothing, Effect, written}
@@ -24,9 +25,10 @@ use Rattle.effects.specs.Moves.{quiet}
 use Rattle.effects.specs.declared.Event.the-variants.{Quiet}
 use Rattle.flow.specs.Stack.{pushed}
 use Rattle.execute.specs.Execute.{executed}
-use Rattle.chip.specs.Admission.{programAllowed, ramAllowed, sampleAllowed, sampleNumber, lentNumber, lentOf, admission}
-use Rattle.chip.specs.Refusals.{Fetches, Gives, program-length, ram-length, state-outside, sample-bits, no-first-byte, undefined-code, no-second-byte, no-table-byte, TableByte, of-movp, of-movp3, of-jmpp}
-use Rattle.chip.specs.Step.{Course, Plan, externalCalls, timerCalls, pcAfter, resetState, waits, called, withoutRequest, declined, accepted, done, carriedBy, carried, course, planBy, planOf, stepOf, ramAfter}
+use Rattle.chip.specs.Admission.{programAllowed, outsideAllowed, ramAllowed, sampleAllowed, sampleNumber, lentNumber, lentOf, admission}
+use Rattle.chip.specs.Refusals.{Fetches, lacking, Gives, program-length, outside-length, ram-length, state-outside, sample-bits, no-first-byte, undefined-code, no-second-byte, no-table-byte, TableByte, of-movp, of-movp3, of-jmpp}
+use Rattle.chip.specs.Step.{Course, Plan, externalCalls, timerCalls, pcAfter, resetState, waits, called, withoutRequest, declined, accepted, done, carriedBy, carried, courseBy, course, refusedBy, planBy, planOf, stepOf, ramAfter}
+use Rattle.chip.specs.declared.Turn.the-variants.{CarryOut}
 use Rattle.chip.proofs.Choices.{either}
 
 -- A refused step returns its number, the state it got, no event, 0 cycles and 0 samples, and leaves RAM as it was.
@@ -35,15 +37,24 @@ pub record Unchanged (ram : List ℕ) (s : State) (p : Plan) : Type 0 where
   pub event : p .event ≡ Quiet
   pub cycles : p .cycles ≡ 0
   pub used : p .used ≡ 0
+  pub outside : p .outside ≡ 0
   pub memory : written ram (p .write) ≡ ram
 
 pub refused-unchanged :
-    (program : Program) (ram : List ℕ) (s : State) (first second : ℕ) → (planOf program ram s first second .number ≡ 0 → ⊥)
-    → Unchanged ram s (planOf program ram s first second)
+    (roms : Roms) (ram : List ℕ) (s : State) (first second : ℕ) → (planOf roms ram s first second .number ≡ 0 → ⊥)
+    → Unchanged ram s (planOf roms ram s first second)
 unfolding planBy written
-refused-unchanged program ram s first second n =
+refused-unchanged roms ram s first second n =
     either (λ p. (p .number ≡ 0 → ⊥) → Unchanged ram s p) _ _ _ (λ t h. absurd (h refl))
-    (λ t h. record { state = refl; event = refl; cycles = refl; used = refl; memory = refl }) n
+    (λ t h. record { state = refl; event = refl; cycles = refl; used = refl; outside = refl; memory = refl }) n
+
+-- All of it at once.
+pub refused-step :
+    (roms : Roms) (ram : List ℕ) (s : State) (first second : ℕ) → (stepOf roms ram s first second .number ≡ 0 → ⊥)
+    → stepOf roms ram s first second ≡ refusedBy (stepOf roms ram s first second .number) s
+refused-step roms ram s first second n =
+    let u = refused-unchanged roms ram s first second n in
+    rw (u .state, u .event, u .cycles, u .used, u .outside)
 
 -- The number of a step is its course's.
 number-of : (c : Course) (s : State) (first second : ℕ) → planBy c s first second .number ≡ c .number
@@ -108,10 +119,7 @@ module _ (program ram : List ℕ) (s : State) (base first second : ℕ) where
   numbered (Logic op l d) h = absurd (h refl)
   numbered (In l) h = absurd (h refl)
   numbered (Outl l) h = absurd (h refl)
-  numbered (Expander MovdRead p) h = absurd (h refl)
-  numbered (Expander MovdWrite p) h = absurd (h refl)
-  numbered (Expander Orld p) h = absurd (h refl)
-  numbered (Expander Anld p) h = absurd (h refl)
+  numbered (Expander op p) h = absurd (h refl)
   numbered (Dec r) h = absurd (h refl)
   numbered (Inc c) h = absurd (h refl)
   numbered (Call a) h = absurd (h refl)
@@ -128,45 +136,53 @@ module _ (program ram : List ℕ) (s : State) (base first second : ℕ) where
       (i : Instruction) → (executed i program ram s base first second .number ≡ 0 → ⊥) → executed i program ram s base first second .write ≡ Nothing
   refused-writes i h = numbered i h .silent
 
-module _ (program : Program) (ram : List ℕ) (s : State) (first second : ℕ) where
+module _ (roms : Roms) (ram : List ℕ) (s : State) (first second : ℕ) where
   abbrev pub G : ℕ → Type 0
-  G n = Gives program ram s first second n
+  G n = Gives roms ram s first second n
 
   given-by : {m n : ℕ} → m ≡ n → G m → G n
   given-by e g = subst (λ (k : ℕ). G k) e g
 
   -- 1, 2, 3.
-  lent-gives : (n : ℕ) → lentOf program ram s ≡ n → (n ≡ 0 → ⊥) → G n
+  abbrev lengths : Bool → Bool → Bool → Bool → ℕ
+  lengths p o r q = pick (not p) 1 (pick (not o) 1 (pick (not r) 2 (pick (not q) 3 0)))
+
+  lent-gives : (n : ℕ) → lentOf roms ram s ≡ n → (n ≡ 0 → ⊥) → G n
   unfolding lentNumber pick
-  lent-gives n e z = go (programAllowed (length (program .bytes))) (ramAllowed (length ram)) (permitted (program .set) s) refl refl refl e
+  lent-gives n e z =
+      go (programAllowed (length (roms .inside))) (outsideAllowed (length (roms .outside))) (ramAllowed (length ram)) (permitted (roms .set) s) refl refl refl refl e
     where
       go :
-          (p r q : Bool) → programAllowed (length (program .bytes)) ≡ p → ramAllowed (length ram) ≡ r → permitted (program .set) s ≡ q
-          → pick (not p) 1 (pick (not r) 2 (pick (not q) 3 0)) ≡ n → G n
-      go false r q hp hr hq e = given-by e (program-length hp)
-      go true false q hp hr hq e = given-by e (ram-length hp hr)
-      go true true false hp hr hq e = given-by e (state-outside hp hr hq)
-      go true true true hp hr hq e = absurd (z (sym e))
+          (p o r q : Bool) → programAllowed (length (roms .inside)) ≡ p → outsideAllowed (length (roms .outside)) ≡ o → ramAllowed (length ram) ≡ r
+          → permitted (roms .set) s ≡ q → lengths p o r q ≡ n → G n
+      go false o r q hp ho hr hq e = given-by e (program-length hp)
+      go true false r q hp ho hr hq e = given-by e (outside-length hp ho)
+      go true true false q hp ho hr hq e = given-by e (ram-length hp ho hr)
+      go true true true false hp ho hr hq e = given-by e (state-outside hp ho hr hq)
+      go true true true true hp ho hr hq e = absurd (z (sym e))
 
   pub record Allowed : Type 0 where
-    pub program-allowed : programAllowed (length (program .bytes)) ≡ true
+    pub program-allowed : programAllowed (length (roms .inside)) ≡ true
+    pub outside-allowed : outsideAllowed (length (roms .outside)) ≡ true
     pub ram-allowed : ramAllowed (length ram) ≡ true
-    pub state-permitted : permitted (program .set) s ≡ true
+    pub state-permitted : permitted (roms .set) s ≡ true
 
-  pub allowed : lentOf program ram s ≡ 0 → Allowed
+  pub allowed : lentOf roms ram s ≡ 0 → Allowed
   unfolding lentNumber pick
-  allowed e = go (programAllowed (length (program .bytes))) (ramAllowed (length ram)) (permitted (program .set) s) refl refl refl e
+  allowed e =
+      go (programAllowed (length (roms .inside))) (outsideAllowed (length (roms .outside))) (ramAllowed (length ram)) (permitted (roms .set) s) refl refl refl refl e
     where
       go :
-          (p r q : Bool) → programAllowed (length (program .bytes)) ≡ p → ramAllowed (length ram) ≡ r → permitted (program .set) s ≡ q
-          → _≡_ {A = ℕ} (pick (not p) 1 (pick (not r) 2 (pick (not q) 3 0))) 0 → Allowed
-      go false r q hp hr hq e = absurd (omega arith)
-      go true false q hp hr hq e = absurd (omega arith)
-      go true true false hp hr hq e = absurd (omega arith)
-      go true true true hp hr hq e = record { program-allowed = hp; ram-allowed = hr; state-permitted = hq }
+          (p o r q : Bool) → programAllowed (length (roms .inside)) ≡ p → outsideAllowed (length (roms .outside)) ≡ o → ramAllowed (length ram) ≡ r
+          → permitted (roms .set) s ≡ q → _≡_ {A = ℕ} (lengths p o r q) 0 → Allowed
+      go false o r q hp ho hr hq e = absurd (omega arith)
+      go true false r q hp ho hr hq e = absurd (omega arith)
+      go true true false q hp ho hr hq e = absurd (omega arith)
+      go true true true false hp ho hr hq e = absurd (omega arith)
+      go true true true true hp ho hr hq e = record { program-allowed = hp; outside-allowed = ho; ram-allowed = hr; state-permitted = hq }
 
   -- Every chip has 64 bytes of RAM at least.
-  pub roomy : lentOf program ram s ≡ 0 → 64 ≤ length ram
+  pub roomy : lentOf roms ram s ≡ 0 → 64 ≤ length ram
   roomy e = go (eqb (length ram) 64) (eqb (length ram) 128) (eqb (length ram) 256) refl refl refl (allowed e .ram-allowed)
     where
       go :
@@ -178,92 +194,99 @@ module _ (program : Program) (ram : List ℕ) (s : State) (first second : ℕ) w
       go false false false p q r h = absurd (false≢true h)
 
   -- Where 1, 2 and 3 are not given, the samples alone decide.
-  pub samples-decide : lentOf program ram s ≡ 0 → admission program ram s first second ≡ sampleNumber first second
+  pub samples-decide : lentOf roms ram s ≡ 0 → admission roms ram s first second ≡ sampleNumber first second
   unfolding admission pick
   samples-decide h = rw h
 
   -- Where one of them is given, it is the step's.
   pub lent-refuses :
-      (lentOf program ram s ≡ 0 → ⊥)
-      → (stepOf program ram s first second ≡ record { number = lentOf program ram s; state = s; event = Quiet; cycles = 0; used = 0 })
-      × (ramAfter program ram s first second ≡ ram)
+      (lentOf roms ram s ≡ 0 → ⊥)
+      → (stepOf roms ram s first second ≡ refusedBy (lentOf roms ram s) s)
+      × (ramAfter roms ram s first second ≡ ram)
   unfolding course admission declined planBy written pick
-  lent-refuses z = (simp (ne-eqb (lentOf program ram s) 0 z), simp (ne-eqb (lentOf program ram s) 0 z))
+  lent-refuses z = (simp (ne-eqb (lentOf roms ram s) 0 z), simp (ne-eqb (lentOf roms ram s) 0 z))
 
-  pub admitted-stands : admission program ram s first second ≡ 0 → lentOf program ram s ≡ 0
+  pub admitted-stands : admission roms ram s first second ≡ 0 → lentOf roms ram s ≡ 0
   unfolding admission pick
-  admitted-stands e = go (eqb (lentOf program ram s) 0) refl e
+  admitted-stands e = go (eqb (lentOf roms ram s) 0) refl e
     where
       go :
-          (p : Bool) → eqb (lentOf program ram s) 0 ≡ p
-          → pick (not p) (lentOf program ram s) (pick (not (sampleAllowed first && sampleAllowed second)) 6 0) ≡ 0
-          → lentOf program ram s ≡ 0
+          (p : Bool) → eqb (lentOf roms ram s) 0 ≡ p
+          → pick (not p) (lentOf roms ram s) (pick (not (sampleAllowed first && sampleAllowed second)) 6 0) ≡ 0
+          → lentOf roms ram s ≡ 0
       go true h e = eqb-true _ _ h
       go false h e = e
 
   -- And 6.
-  admission-gives : (n : ℕ) → admission program ram s first second ≡ n → (n ≡ 0 → ⊥) → G n
+  admission-gives : (n : ℕ) → admission roms ram s first second ≡ n → (n ≡ 0 → ⊥) → G n
   unfolding admission pick
-  admission-gives n e z = go (eqb (lentOf program ram s) 0) (sampleAllowed first && sampleAllowed second) refl refl e
+  admission-gives n e z = go (eqb (lentOf roms ram s) 0) (sampleAllowed first && sampleAllowed second) refl refl e
     where
       go :
-          (p q : Bool) → eqb (lentOf program ram s) 0 ≡ p → (sampleAllowed first && sampleAllowed second) ≡ q
-          → pick (not p) (lentOf program ram s) (pick (not q) 6 0) ≡ n → G n
+          (p q : Bool) → eqb (lentOf roms ram s) 0 ≡ p → (sampleAllowed first && sampleAllowed second) ≡ q
+          → pick (not p) (lentOf roms ram s) (pick (not q) 6 0) ≡ n → G n
       go false q hp hq e = lent-gives n e z
       go true false hp hq e =
           let h = allowed (eqb-true _ _ hp) in
-          given-by e (sample-bits (h .program-allowed) (h .ram-allowed) (h .state-permitted) hq)
+          given-by e (sample-bits (h .program-allowed) (h .outside-allowed) (h .ram-allowed) (h .state-permitted) hq)
       go true true hp hq e = absurd (z (sym e))
 
+  -- What the step sees lacks a byte where the memory that must answer does.
+  seen-lacking : (a : ℕ) {b : Bool} → lacks (seenBy roms first .bytes) a ≡ b → lacking roms first a ≡ b
+  seen-lacking a h = sym (visible-lacks (roms .inside) (roms .outside) (isHigh eaPin first) a) ∙ h
+
+  lacking-seen : (a : ℕ) {b : Bool} → lacking roms first a ≡ b → lacks (seenBy roms first .bytes) a ≡ b
+  lacking-seen a h = visible-lacks (roms .inside) (roms .outside) (isHigh eaPin first) a ∙ h
+
   -- 5, 4, 5.
-  answer-gives : Fetches program ram s first second → (n : ℕ) → instructionAt program (s .pc) ≡ refused n → G n
+  answer-gives : Fetches roms ram s first second → (n : ℕ) → instructionAt (seenBy roms first) (s .pc) ≡ refused n → G n
   unfolding instructionAt decodedAt pick
-  answer-gives f n e = go (lacks (program .bytes) (s .pc)) (eqb size 0) (eqb size 1) (lacks (program .bytes) (nextPc (s .pc))) refl refl refl refl _ _ e
+  answer-gives f n e = go (lacks (seenBy roms first .bytes) (s .pc)) (eqb size 0) (eqb size 1) (lacks (seenBy roms first .bytes) (nextPc (s .pc))) refl refl refl refl _ _ e
     where
       size : ℕ
-      size = entryAt program (s .pc) .bytes
+      size = entryAt (seenBy roms first) (s .pc) .bytes
 
       go :
-          (q p t u : Bool) → lacks (program .bytes) (s .pc) ≡ q → eqb size 0 ≡ p → eqb size 1 ≡ t → lacks (program .bytes) (nextPc (s .pc)) ≡ u
+          (q p t u : Bool) → lacks (seenBy roms first .bytes) (s .pc) ≡ q → eqb size 0 ≡ p → eqb size 1 ≡ t → lacks (seenBy roms first .bytes) (nextPc (s .pc)) ≡ u
           → (x y : Sized) → pick q (refused 5) (pick p (refused 4) (pick t (given x) (pick u (refused 5) (given y)))) ≡ refused n → G n
-      go true p t u hq hp ht hu x y e = given-by (cc) (no-first-byte f hq)
-      go false true t u hq hp ht hu x y e = given-by (cc) (undefined-code f hq hp)
+      go true p t u hq hp ht hu x y e = given-by (cc) (no-first-byte f (seen-lacking _ hq))
+      go false true t u hq hp ht hu x y e = given-by (cc) (undefined-code f (seen-lacking _ hq) hp)
       go false false true u hq hp ht hu x y e = let z : _≡_ {A = ℕ} 0 1 = cc in absurd (omega arith)
-      go false false false true hq hp ht hu x y e = given-by (cc) (no-second-byte f hq hp ht hu)
+      go false false false true hq hp ht hu x y e = given-by (cc) (no-second-byte f (seen-lacking _ hq) hp ht (seen-lacking _ hu))
       go false false false false hq hp ht hu x y e = let z : _≡_ {A = ℕ} 0 1 = cc in absurd (omega arith)
 
-  carried-gives : Fetches program ram s first second → (n : ℕ) → carried program ram s first second .number ≡ n → (n ≡ 0 → ⊥) → G n
+  carried-gives : Fetches roms ram s first second → (n : ℕ) → carried (seenBy roms first) ram s first second .number ≡ n → (n ≡ 0 → ⊥) → G n
   unfolding carried done accepted declined pick
-  carried-gives f n e z = go (instructionAt program (s .pc)) refl e
+  carried-gives f n e z = go (instructionAt (seenBy roms first) (s .pc)) refl e
     where
-      go : (a : Answer Sized) → instructionAt program (s .pc) ≡ a → carriedBy a program ram s first second .number ≡ n → G n
+      go : (a : Answer Sized) → instructionAt (seenBy roms first) (s .pc) ≡ a → carriedBy a (seenBy roms first) ram s first second .number ≡ n → G n
       go (refused m) h e = given-by e (answer-gives f m h)
       go (given (sized i k)) h e = table (eqb (effect .number) 0) refl e
         where
           effect : Effect
-          effect = executed i (program .bytes) ram (runningAt s (pcAfter k (s .pc))) (s .pc) first second
+          effect = executed i (seenBy roms first .bytes) ram (runningAt s (pcAfter k (s .pc))) (s .pc) first second
 
-          table : (b : Bool) → eqb (effect .number) 0 ≡ b → pick b (accepted effect (entryAt program (s .pc) .cycles)) (declined (effect .number) s) .number ≡ n → G n
+          table : (b : Bool) → eqb (effect .number) 0 ≡ b → pick b (accepted effect (entryAt (seenBy roms first) (s .pc) .cycles)) (declined (effect .number) s) .number ≡ n → G n
           table true t e = absurd (z (sym e))
           table false t e =
-              let l = numbered (program .bytes) ram (runningAt s (pcAfter k (s .pc))) (s .pc) first second i (eqb-false _ _ t) in
-              given-by (sym (l .five) ∙ e) (no-table-byte i k (l .at) f h (l .table-byte) (l .none-there))
+              let l = numbered (seenBy roms first .bytes) ram (runningAt s (pcAfter k (s .pc))) (s .pc) first second i (eqb-false _ _ t) in
+              given-by (sym (l .five) ∙ e) (no-table-byte i k (l .at) f h (l .table-byte) (seen-lacking _ (l .none-there)))
 
   -- A step that gives a number has the table's reason for it.
-  pub exactly-from : (n : ℕ) → stepOf program ram s first second .number ≡ n → (n ≡ 0 → ⊥) → G n
+  pub exactly-from : (n : ℕ) → stepOf roms ram s first second .number ≡ n → (n ≡ 0 → ⊥) → G n
   unfolding course accepted declined waits pick
   exactly-from n e z =
       go (eqb number 0) (isLow resetPin first) (isWaiting (s .mode)) (externalCalls s first) (timerCalls s) refl refl refl refl refl
-      (sym (number-of (course program ram s first second) s first second) ∙ e)
+      (sym (number-of (course roms ram s first second) s first second) ∙ e)
     where
       number : ℕ
-      number = admission program ram s first second
+      number = admission roms ram s first second
 
       go :
           (p q w r t : Bool) → eqb number 0 ≡ p → isLow resetPin first ≡ q → isWaiting (s .mode) ≡ w → externalCalls s first ≡ r → timerCalls s ≡ t
           → pick (not p) (declined number s) (pick q (accepted (quiet (resetState s)) 1) (pick w (waits s first)
           (pick r (accepted (called s 3) 2)
-          (pick t (accepted (called (withoutRequest s) 7) 2) (carried program ram s first second))))) .number ≡ n → G n
+          (pick t (accepted (called (withoutRequest s) 7) 2) (courseBy CarryOut roms ram s first second))))) .number ≡ n → G n
       go false q w r t hp hq hw hr ht e = admission-gives n e z
       go true true w r t hp hq hw hr ht e = absurd (z (sym e))
       go true false true r t hp hq hw hr ht e = absurd (z (sym e))
@@ -273,48 +296,49 @@ module _ (program : Program) (ram : List ℕ) (s : State) (first second : ℕ) w
           carried-gives (record { admitted = eqb-true _ _ hp; no-reset = hq; no-wait = hw; no-external = hr; no-timer = ht }) n e z
 
   -- And where the table has a reason, the step gives the number.
-  not-admitted : (n : ℕ) → admission program ram s first second ≡ n → (n ≡ 0 → ⊥) → course program ram s first second .number ≡ n
+  not-admitted : (n : ℕ) → admission roms ram s first second ≡ n → (n ≡ 0 → ⊥) → course roms ram s first second .number ≡ n
   unfolding course declined pick
   not-admitted n e z = rw (e, ne-eqb _ _ z)
 
   -- A step that is accepted was admitted.
-  pub admitted : course program ram s first second .number ≡ 0 → admission program ram s first second ≡ 0
-  admitted a = go (eqb (admission program ram s first second) 0) refl
+  pub admitted : course roms ram s first second .number ≡ 0 → admission roms ram s first second ≡ 0
+  admitted a = go (eqb (admission roms ram s first second) 0) refl
     where
-      go : (p : Bool) → eqb (admission program ram s first second) 0 ≡ p → admission program ram s first second ≡ 0
+      go : (p : Bool) → eqb (admission roms ram s first second) 0 ≡ p → admission roms ram s first second ≡ 0
       go true h = eqb-true _ _ h
       go false h = sym (not-admitted _ refl (eqb-false _ _ h)) ∙ a
 
-  pub comes-to : Fetches program ram s first second → course program ram s first second ≡ carried program ram s first second
+  pub comes-to : Fetches roms ram s first second → course roms ram s first second ≡ courseBy CarryOut roms ram s first second
   unfolding course pick
   comes-to f = rw (f .admitted, f .no-reset, f .no-wait, f .no-external, f .no-timer)
 
-  reads : Fetches program ram s first second → (n : ℕ) → instructionAt program (s .pc) ≡ refused n → course program ram s first second .number ≡ n
+  reads : Fetches roms ram s first second → (n : ℕ) → instructionAt (seenBy roms first) (s .pc) ≡ refused n → course roms ram s first second .number ≡ n
   unfolding carried declined
   reads f n e = rw (comes-to f, e)
 
-  five : (i : Instruction) (k at : ℕ) → TableByte (s .pc) (s .a) i at → lacks (program .bytes) at ≡ true → executed i (program .bytes) ram (runningAt s (pcAfter k (s .pc))) (s .pc) first second .number ≡ 5
+  five : (i : Instruction) (k at : ℕ) → TableByte (s .pc) (s .a) i at → lacks (seenBy roms first .bytes) at ≡ true → executed i (seenBy roms first .bytes) ram (runningAt s (pcAfter k (s .pc))) (s .pc) first second .number ≡ 5
   unfolding executed pick
   five i k at of-movp l = rw l
   five i k at of-movp3 l = rw l
   five i k at of-jmpp l = rw l
 
   table :
-      (i : Instruction) (k : ℕ) → instructionAt program (s .pc) ≡ given (sized i k)
-      → executed i (program .bytes) ram (runningAt s (pcAfter k (s .pc))) (s .pc) first second .number ≡ 5 → carried program ram s first second .number ≡ 5
+      (i : Instruction) (k : ℕ) → instructionAt (seenBy roms first) (s .pc) ≡ given (sized i k)
+      → executed i (seenBy roms first .bytes) ram (runningAt s (pcAfter k (s .pc))) (s .pc) first second .number ≡ 5 → carried (seenBy roms first) ram s first second .number ≡ 5
   unfolding carried done declined pick
   table i k e t = rw (e, t)
 
-  course-gives : (n : ℕ) → G n → course program ram s first second .number ≡ n
+  course-gives : (n : ℕ) → G n → course roms ram s first second .number ≡ n
   unfolding admission lentNumber instructionAt decodedAt pick
   course-gives n (program-length p) = not-admitted 1 (rw p) (λ z. omega arith)
-  course-gives n (ram-length p r) = not-admitted 2 (rw (p, r)) (λ z. omega arith)
-  course-gives n (state-outside p r q) = not-admitted 3 (rw (p, r, q)) (λ z. omega arith)
-  course-gives n (sample-bits p r q b) = not-admitted 6 (rw (p, r, q, b)) (λ z. omega arith)
-  course-gives n (no-first-byte f l) = reads f 5 (rw l)
-  course-gives n (undefined-code f l u) = reads f 4 (rw (l, u))
-  course-gives n (no-second-byte f l u o m) = reads f 5 (rw (l, u, o, m))
-  course-gives n (no-table-byte i k at f e w l) = ap (λ (c : Course). c .number) (comes-to f) ∙ table i k e (five i k at w l)
+  course-gives n (outside-length p o) = not-admitted 1 (rw (p, o)) (λ z. omega arith)
+  course-gives n (ram-length p o r) = not-admitted 2 (rw (p, o, r)) (λ z. omega arith)
+  course-gives n (state-outside p o r q) = not-admitted 3 (rw (p, o, r, q)) (λ z. omega arith)
+  course-gives n (sample-bits p o r q b) = not-admitted 6 (rw (p, o, r, q, b)) (λ z. omega arith)
+  course-gives n (no-first-byte f l) = reads f 5 (rw (lacking-seen _ l))
+  course-gives n (undefined-code f l u) = reads f 4 (rw (lacking-seen _ l, u))
+  course-gives n (no-second-byte f l u o m) = reads f 5 (rw (lacking-seen _ l, u, o, lacking-seen _ m))
+  course-gives n (no-table-byte i k at f e w l) = ap (λ (c : Course). c .number) (comes-to f) ∙ table i k e (five i k at w (lacking-seen at l))
 
-  pub exactly-to : (n : ℕ) → G n → stepOf program ram s first second .number ≡ n
-  exactly-to n g = number-of (course program ram s first second) s first second ∙ course-gives n g
+  pub exactly-to : (n : ℕ) → G n → stepOf roms ram s first second .number ≡ n
+  exactly-to n g = number-of (course roms ram s first second) s first second ∙ course-gives n g

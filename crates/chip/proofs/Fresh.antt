@@ -18,6 +18,7 @@ use Rattle.isa.specs.declared.Instruction.the-variants.{Branch}
 use Rattle.isa.specs.declared.Set.{Set}
 use Rattle.isa.proofs.Everywhere.{everywhere}
 use Rattle.isa.proofs.Finding.{Found, alone, paired, found, refused-some}
+use Rattle.machine.specs.Rom.{Roms, seenBy}
 use Rattle.machine.specs.State.{powerUp, withCore, runningAt, withCounting}
 use Rattle.machine.specs.declared.Counting.{Counting}
 use Rattle.machine.specs.declared.Counting.the-variants.{Stopped, Timer}
@@ -129,12 +130,12 @@ carried-once program ram s first second = go (instructionAt program (s .pc)) ref
         done-once _ _ s
         (λ two. keeps i (program .bytes) ram (runningAt s (pcAfter n (s .pc))) (s .pc) first second .counted (found-leaves program (s .pc) i n (found program (s .pc) i n e) two))
 
-pub course-once : (program : Program) (ram : List ℕ) (s : State) (first second : ℕ) → Once (course program ram s first second)
+pub course-once : (roms : Roms) (ram : List ℕ) (s : State) (first second : ℕ) → Once (course roms ram s first second)
 unfolding course
-course-once program ram s first second =
+course-once roms ram s first second =
     either Once _ _ _ (λ t. declined-once _ s (eqb-false _ _ (not-true _ t)))
     (λ t. either Once _ _ _ (λ u. accepted-once _ _ (λ two. refl))
     (λ u. either Once _ _ _ (λ h. waits-once s first)
     (λ h. either Once _ _ _ (λ v. accepted-once _ _ (λ two. called-once s 3))
     (λ v. either Once _ _ _ (λ w. accepted-once _ _ (λ two. called-once _ 7))
-    (λ w. carried-once program ram s first second)))))
+    (λ w. record { once = carried-once (seenBy roms first) ram s first second .once })))))

@@ -18,6 +18,7 @@ use Rattle.isa.proofs.Finding.{refused-some}
 use Rattle.isa.proofs.Sets.{read-within}
 use Rattle.machine.specs.Counting.{counted}
 use Rattle.machine.specs.Mode.{isRunning, modeAllowed}
+use Rattle.machine.specs.Rom.{Roms, seenBy}
 use Rattle.machine.specs.State.{permitted, runningAt, withInterrupts}
 use Rattle.machine.specs.declared.Count.{Count}
 use Rattle.machine.specs.declared.Counting.{Counting}
@@ -27,8 +28,8 @@ use Rattle.machine.specs.declared.State.{State}
 use Rattle.effects.specs.Effect.{Write, Nothing, Byte, Pair, Effect, written}
 use Rattle.execute.proofs.Within.{WithinSizes, next-within, push-within, within}
 use Rattle.chip.specs.Admission.{lentNumber, lentOf}
-use Rattle.chip.specs.Step.{Course, declined, accepted, waits, resetState, called, withoutRequest, pcAfter, done, carriedBy, carried, course, ticked, settled, planOf, stepOf, ramAfter}
-use Rattle.chip.specs.declared.Outcome.{Outcome}
+use Rattle.chip.specs.Step.{Course, declined, accepted, waits, resetState, called, withoutRequest, pcAfter, done, carriedBy, carried, course, ticked, settled, planOf, movedOf, stepOf, ramAfter}
+use Rattle.chip.specs.declared.Moved.{Moved}
 use Rattle.chip.proofs.Choices.{either}
 use Rattle.chip.proofs.Cycles.{course-number, plan-state, plan-cycles}
 use Rattle.chip.proofs.Exactly.{allowed, admitted, admitted-stands}
@@ -104,18 +105,18 @@ carried-fits program ram s first second h = go (instructionAt program (s .pc)) r
         (within i (program .bytes) ram (runningAt s (pcAfter n (s .pc))) (s .pc) first second
         (record { address = after-within n (s .pc) (h .address); divides = h .divides; bit-3 = h .bit-3 }) (h .address))
 
-course-fits : (program : Program) (ram : List ℕ) (s : State) (first second : ℕ) → Fits (course program ram s first second)
+course-fits : (roms : Roms) (ram : List ℕ) (s : State) (first second : ℕ) → Fits (course roms ram s first second)
 unfolding course
-course-fits program ram s first second =
+course-fits roms ram s first second =
     either Fits _ _ _ (λ t. declined-fits _ s (eqb-false _ _ (not-true _ t)))
     (λ t.
-    let w = allowed program ram s first second (admitted-stands program ram s first second (eqb-true _ _ (not-false _ t))) in
-    let h = permitted-within (program .set) s (w .state-permitted) in
+    let w = allowed roms ram s first second (admitted-stands roms ram s first second (eqb-true _ _ (not-false _ t))) in
+    let h = permitted-within (roms .set) s (w .state-permitted) in
     either Fits _ _ _ (λ u. accepted-fits _ 1 (reset-within s h))
     (λ u. either Fits _ _ _ (λ y. waits-fits s first h)
     (λ y. either Fits _ _ _ (λ v. accepted-fits _ 2 (called-within s 3 h (lit≤ tt)))
     (λ v. either Fits _ _ _ (λ x. accepted-fits _ 2 (called-within (withoutRequest s) 7 (request-within s h) (lit≤ tt)))
-    (λ x. carried-fits program ram s first second h)))))
+    (λ x. record { sizes = carried-fits (seenBy roms first) ram s first second h .sizes })))))
 
 -- Counting leaves the divider below 32.
 counted-divider : (mode : Counting) (x : Count) (t1 enabled : Bool) → x .divider < 32 → counted mode x t1 enabled .divider < 32
@@ -143,42 +144,42 @@ settled-within s cycles fresh first second h =
     }
 
 -- Under Intel the machine runs before every step and after it: the set has no HALT and no STOP.
-module _ (program : Program) (ram : List ℕ) (s : State) (first second : ℕ) (a : planOf program ram s first second .number ≡ 0) where
-  stands : lentOf program ram s ≡ 0
-  stands = admitted-stands program ram s first second (admitted program ram s first second (course-number (course program ram s first second) s first second a))
+module _ (roms : Roms) (ram : List ℕ) (s : State) (first second : ℕ) (a : planOf roms ram s first second .number ≡ 0) where
+  stands : lentOf roms ram s ≡ 0
+  stands = admitted-stands roms ram s first second (admitted roms ram s first second (course-number (course roms ram s first second) s first second a))
 
-  mode-before : modeAllowed (program .set) (s .mode) ≡ true
-  mode-before = permitted-mode (program .set) s (allowed program ram s first second stands .state-permitted)
+  mode-before : modeAllowed (roms .set) (s .mode) ≡ true
+  mode-before = permitted-mode (roms .set) s (allowed roms ram s first second stands .state-permitted)
 
   -- A step that Intel's set allows takes a cycle.
-  spent-cycles : program .set ≡ Intel → Spends (planOf program ram s first second .cycles) (planOf program ram s first second .used) → 1 ≤ planOf program ram s first second .cycles
+  spent-cycles : roms .set ≡ Intel → Spends (planOf roms ram s first second .cycles) (planOf roms ram s first second .used) → 1 ≤ planOf roms ram s first second .cycles
   spent-cycles e (in-cycles l g u) = l
   spent-cycles e (in-waiting z u) =
       let runs : isRunning (s .mode) ≡ true = subst (λ (x : Set). modeAllowed x (s .mode) ≡ true) e mode-before in
-      let n = course-number (course program ram s first second) s first second a in
-      let w = waits-halted program ram s first second (idle-waits program ram s first second n (sym (plan-cycles (course program ram s first second) s first second n) ∙ z)) in
+      let n = course-number (course roms ram s first second) s first second a in
+      let w = waits-halted roms ram s first second (idle-waits roms ram s first second n (sym (plan-cycles (course roms ram s first second) s first second n) ∙ z)) in
       absurd (false≢true (sym (awake (s .mode) runs) ∙ w))
 
-  pub intel-cycles : program .set ≡ Intel → 1 ≤ planOf program ram s first second .cycles
-  intel-cycles e = spent-cycles e (plan-busy program ram s first second .spends a)
+  pub intel-cycles : roms .set ≡ Intel → 1 ≤ planOf roms ram s first second .cycles
+  intel-cycles e = spent-cycles e (plan-busy roms ram s first second .spends a)
 
-  pub intel-runs : program .set ≡ Intel → planOf program ram s first second .state .mode ≡ Running
+  pub intel-runs : roms .set ≡ Intel → planOf roms ram s first second .state .mode ≡ Running
   intel-runs e =
-      runs-after program ram s first second
-      (λ i c w. read-within program (s .pc) i (c .bytes) (c .stands) (subst (λ (x : Set). Without x i) (sym e) (standby w))) a
+      runs-after roms ram s first second
+      (λ i c w. read-within (seenBy roms first) (s .pc) i (c .bytes) (c .stands) (subst (λ (x : Set). Without x i) (sym e) (standby w))) a
       (intel-cycles e)
 
-  mode-after : (set : Set) → program .set ≡ set → modeAllowed set (planOf program ram s first second .state .mode) ≡ true
+  mode-after : (set : Set) → roms .set ≡ set → modeAllowed set (planOf roms ram s first second .state .mode) ≡ true
   mode-after Intel e = rw (intel-runs e)
   mode-after Nec e = refl
 
-  pub accepted-permitted : permitted (program .set) (planOf program ram s first second .state) ≡ true
+  pub accepted-permitted : permitted (roms .set) (planOf roms ram s first second .state) ≡ true
   accepted-permitted =
-      let n = course-number (course program ram s first second) s first second a in
-      within-permitted (program .set) (planOf program ram s first second .state)
-      (subst WithinSizes (sym (plan-state (course program ram s first second) s first second n))
-      (settled-within (course program ram s first second .state) _ _ first second (course-fits program ram s first second .sizes n)))
-      (mode-after (program .set) refl)
+      let n = course-number (course roms ram s first second) s first second a in
+      within-permitted (roms .set) (planOf roms ram s first second .state)
+      (subst WithinSizes (sym (plan-state (course roms ram s first second) s first second n))
+      (settled-within (course roms ram s first second .state) _ _ first second (course-fits roms ram s first second .sizes n)))
+      (mode-after (roms .set) refl)
 
 -- ---- RAM keeps its length
 pub written-length : (ram : List ℕ) (w : Write) → length (written ram w) ≡ length ram
@@ -187,16 +188,16 @@ written-length ram Nothing = refl
 written-length ram (Byte at v) = length-set ram at v
 written-length ram (Pair at low high) = length-set (set ram at low) (at + 1) high ∙ length-set ram at low
 
-pub ram-length : (program : Program) (ram : List ℕ) (s : State) (first second : ℕ) → length (ramAfter program ram s first second) ≡ length ram
-ram-length program ram s first second = written-length ram _
+pub ram-length : (roms : Roms) (ram : List ℕ) (s : State) (first second : ℕ) → length (ramAfter roms ram s first second) ≡ length ram
+ram-length roms ram s first second = written-length ram _
 
 -- So 1, 2 and 3, once not given, are not given again: of what a call of the step answered and the RAM that it left.
 pub still-stands :
-    (program : Program) (ram : List ℕ) (s : State) (first second : ℕ) (r : Outcome) (left : List ℕ) → r ≡ stepOf program ram s first second
-    → left ≡ ramAfter program ram s first second → r .number ≡ 0 → lentOf program ram s ≡ 0
-    → lentOf program left (r .state) ≡ 0
+    (roms : Roms) (ram : List ℕ) (s : State) (first second : ℕ) (r : Moved) (left : List ℕ) → r ≡ movedOf (stepOf roms ram s first second)
+    → left ≡ ramAfter roms ram s first second → r .number ≡ 0 → lentOf roms ram s ≡ 0
+    → lentOf roms left (r .state) ≡ 0
 unfolding lentNumber pick
-still-stands program ram s first second r left er el a z =
-    let w = allowed program ram s first second z in
-    let p = accepted-permitted program ram s first second (rw er at a) in
-    rw (er, el, ram-length program ram s first second, w .program-allowed, w .ram-allowed, p)
+still-stands roms ram s first second r left er el a z =
+    let w = allowed roms ram s first second z in
+    let p = accepted-permitted roms ram s first second (rw er at a) in
+    rw (er, el, ram-length roms ram s first second, w .program-allowed, w .outside-allowed, w .ram-allowed, p)

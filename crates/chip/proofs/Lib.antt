@@ -1,10 +1,6 @@
 pub mod Answering
-pub mod Bench
 pub mod Choices
-pub mod Cutting
 pub mod Cycles
-pub mod Demand1
-pub mod Demand3
 pub mod Exactly
 pub mod Fetches
 pub mod Fresh
@@ -12,13 +8,8 @@ pub mod Lasting
 pub mod Laws
 pub mod Linking
 pub mod Modes
-pub mod Once
 pub mod Overflows
-pub mod Parts
 pub mod Runs
-pub mod Sharp
+pub mod Shows
 pub mod Standby
-pub mod Starting
-pub mod Story
-pub mod TableBytes
 pub mod Turns

@@ -14,6 +14,7 @@ use Rattle.isa.specs.declared.Instruction.{Instruction}
 use Rattle.isa.proofs.Finding.{refused-some}
 use Rattle.machine.specs.Mode.{isRunning}
 use Rattle.machine.specs.Pins.{intPin, isLow}
+use Rattle.machine.specs.Rom.{Roms, seenBy}
 use Rattle.machine.specs.State.{runningAt}
 use Rattle.machine.specs.declared.Mode.{Mode}
 use Rattle.machine.specs.declared.Mode.the-variants.{Running, HaltMode, StopMode, Released}
@@ -72,20 +73,20 @@ pub settled-mode : (s : State) (cycles : ℕ) (fresh : Bool) (first second : ℕ
 unfolding settled
 settled-mode s cycles fresh first second = refl
 
-module _ (program : Program) (ram : List ℕ) (s : State) (first second : ℕ) where
-  carried-runs :
-      ((i : Instruction) (n : ℕ) → instructionAt program (s .pc) ≡ given (sized i n) → Standby i → ⊥)
-      → Runs (carried program ram s first second)
-  unfolding carried
-  carried-runs f = go (instructionAt program (s .pc)) refl
-    where
-      go : (a : Answer Sized) → instructionAt program (s .pc) ≡ a → Runs (carriedBy a program ram s first second)
-      go (refused n) e = declined-runs n s (refused-some program (s .pc) n e)
-      go (given (sized i n)) e =
-          done-runs _ _ s (keeps i (program .bytes) ram (runningAt s (pcAfter n (s .pc))) (s .pc) first second .mode (f i n e))
+carried-runs :
+    (program : Program) (ram : List ℕ) (s : State) (first second : ℕ)
+    → ((i : Instruction) (n : ℕ) → instructionAt program (s .pc) ≡ given (sized i n) → Standby i → ⊥) → Runs (carried program ram s first second)
+unfolding carried
+carried-runs program ram s first second f = go (instructionAt program (s .pc)) refl
+  where
+    go : (a : Answer Sized) → instructionAt program (s .pc) ≡ a → Runs (carriedBy a program ram s first second)
+    go (refused n) e = declined-runs n s (refused-some program (s .pc) n e)
+    go (given (sized i n)) e =
+        done-runs _ _ s (keeps i (program .bytes) ram (runningAt s (pcAfter n (s .pc))) (s .pc) first second .mode (f i n e))
 
-  module _ (awake : (i : Instruction) → CarriesOut program s first i → Standby i → ⊥) where
-    course-runs : Runs (course program ram s first second)
+module _ (roms : Roms) (ram : List ℕ) (s : State) (first second : ℕ) where
+  module _ (awake : (i : Instruction) → CarriesOut roms s first i → Standby i → ⊥) where
+    course-runs : Runs (course roms ram s first second)
     unfolding course
     course-runs =
         either Runs _ _ _ (λ t. declined-runs _ s (eqb-false _ _ (not-true _ t)))
@@ -94,21 +95,24 @@ module _ (program : Program) (ram : List ℕ) (s : State) (first second : ℕ) w
         (λ h. either Runs _ _ _ (λ v. accepted-runs _ 2 (called-mode s 3 ∙ running-is (s .mode) (first-of (isRunning (s .mode)) (not (s .interrupts .service)) (s .interrupts .external) (isLow intPin first) v)))
         (λ v. either Runs _ _ _
         (λ w. accepted-runs _ 2 (called-mode (withoutRequest s) 7 ∙ request-mode s ∙ running-is (s .mode) (first-of (isRunning (s .mode)) (not (s .interrupts .service)) (s .interrupts .tcnti) (s .request) w)))
-        (λ w. carried-runs (λ i n e. awake i (record { no-reset = u; no-wait = h; no-external = v; no-timer = w; bytes = n; stands = e })))))))
+        (λ w.
+        let c = carried-runs (seenBy roms first) ram s first second
+        (λ i n e. awake i (record { no-reset = u; no-wait = h; no-external = v; no-timer = w; bytes = n; stands = e })) in
+        record { runs = c .runs })))))
 
-    pub runs-after : planOf program ram s first second .number ≡ 0 → 1 ≤ planOf program ram s first second .cycles → planOf program ram s first second .state .mode ≡ Running
-    runs-after a l = go (course program ram s first second .waited) refl
+    pub runs-after : planOf roms ram s first second .number ≡ 0 → 1 ≤ planOf roms ram s first second .cycles → planOf roms ram s first second .state .mode ≡ Running
+    runs-after a l = go (course roms ram s first second .waited) refl
       where
-        n : course program ram s first second .number ≡ 0
-        n = course-number (course program ram s first second) s first second a
+        n : course roms ram s first second .number ≡ 0
+        n = course-number (course roms ram s first second) s first second a
 
-        go : (b : Bool) → course program ram s first second .waited ≡ b → planOf program ram s first second .state .mode ≡ Running
+        go : (b : Bool) → course roms ram s first second .waited ≡ b → planOf roms ram s first second .state .mode ≡ Running
         go false h =
-            ap (λ (t : State). t .mode) (plan-state (course program ram s first second) s first second n)
-            ∙ settled-mode (course program ram s first second .state) _ _ first second ∙ course-runs .runs n h
+            ap (λ (t : State). t .mode) (plan-state (course roms ram s first second) s first second n)
+            ∙ settled-mode (course roms ram s first second .state) _ _ first second ∙ course-runs .runs n h
         go true h =
-            let none : planOf program ram s first second .cycles ≡ 0 =
-            plan-cycles (course program ram s first second) s first second n
-            ∙ ap (λ (c : Course). c .cycles) (waits-only program ram s first second h) ∙ waits-cycles s first
+            let none : planOf roms ram s first second .cycles ≡ 0 =
+            plan-cycles (course roms ram s first second) s first second n
+            ∙ ap (λ (c : Course). c .cycles) (waits-only roms ram s first second h) ∙ waits-cycles s first
             in
             absurd (omega (arith, l, none))

@@ -4,9 +4,9 @@ use Prim.Native.Nat.{ℕ, _+_, _-_, _*_, _%_, _≤_, _<_}
 use mathlib.Core.List.{List}
 use mathlib.Core.Path.{_≡_, sym, ap, _∙_, subst}
 use native.Mathlib.Omega.{arith}
-use Rattle.isa.specs.Reading.{Program}
 use Rattle.isa.specs.Choice.{pick}
 use Rattle.machine.specs.Counting.{counted}
+use Rattle.machine.specs.Rom.{Roms}
 use Rattle.machine.specs.declared.Count.{Count}
 use Rattle.machine.specs.declared.Counting.{Counting}
 use Rattle.machine.specs.declared.Counting.the-variants.{Timer}
@@ -53,7 +53,7 @@ pub no-earlier : (c i : ℕ) → c < 256 → 1 ≤ i → i < 32 * (256 - c) → 
 no-earlier c i h l b e = omega arith
 
 -- The first overflow is in cycle 32 x (256 - c): that cycle is one, and no cycle before it.
-module _ {program : Program} {ram : List ℕ} {s : State} {k : Progress} (c : ℕ) (small : c < 256) (h : Steps program ram s k) (u : AllUndisturbed h)
+module _ {roms : Roms} {ram : List ℕ} {s : State} {k : Progress} (c : ℕ) (small : c < 256) (h : Steps roms ram s k) (u : AllUndisturbed h)
     (r : Running c 0 s) where
   pub overflow-law : overflowCycle c ≤ k .cycles → Overflowing (cycle h (overflowCycle c))
   overflow-law g =

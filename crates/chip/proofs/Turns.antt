@@ -7,10 +7,10 @@ use mathlib.Core.List.{List}
 use mathlib.Core.Path.{_≡_, refl}
 use native.Mathlib.Omega.{arith}
 use borrow.Author.Tests.{eqb-true, ne-eqb}
-use Rattle.isa.specs.Reading.{Program}
 use Rattle.isa.specs.Choice.{pick}
 use Rattle.machine.specs.Mode.{isRunning, isWaiting}
 use Rattle.machine.specs.Pins.{intPin, resetPin, isHigh, isLow}
+use Rattle.machine.specs.Rom.{Roms}
 use Rattle.machine.specs.declared.Mode.{Mode}
 use Rattle.machine.specs.declared.Mode.the-variants.{Running, HaltMode, StopMode, Released}
 use Rattle.machine.specs.declared.State.{State}
@@ -63,40 +63,40 @@ module _ (s : State) where
   pub released-timer : s .mode ≡ Released → timerCalls s ≡ false
   released-timer e = rw e
 
-module _ (program : Program) (ram : List ℕ) (s : State) (first second : ℕ) (lent : lentOf program ram s ≡ 0) where
+module _ (roms : Roms) (ram : List ℕ) (s : State) (first second : ℕ) (lent : lentOf roms ram s ≡ 0) where
   abbrev pub allowed : Bool
   allowed = sampleAllowed first && sampleAllowed second
 
   abbrev pub Takes : Turn → Type 0
-  Takes t = course program ram s first second ≡ courseBy t program ram s first second
+  Takes t = course roms ram s first second ≡ courseBy t roms ram s first second
 
   pub refuses : allowed ≡ false → Takes Refuse
   unfolding course pick
-  refuses a = rw (samples-decide program ram s first second lent, a)
+  refuses a = rw (samples-decide roms ram s first second lent, a)
 
   pub resets : allowed ≡ true → isLow resetPin first ≡ true → Takes Reset
   unfolding course pick
-  resets a r = rw (samples-decide program ram s first second lent, a, r)
+  resets a r = rw (samples-decide roms ram s first second lent, a, r)
 
   pub waits-in : allowed ≡ true → isLow resetPin first ≡ false → isWaiting (s .mode) ≡ true → Takes Wait
   unfolding course pick
-  waits-in a r w = rw (samples-decide program ram s first second lent, a, r, w)
+  waits-in a r w = rw (samples-decide roms ram s first second lent, a, r, w)
 
   pub calls-external : allowed ≡ true → isLow resetPin first ≡ false → isWaiting (s .mode) ≡ false → externalCalls s first ≡ true → Takes ExternalCall
   unfolding course pick
-  calls-external a r w e = rw (samples-decide program ram s first second lent, a, r, w, e)
+  calls-external a r w e = rw (samples-decide roms ram s first second lent, a, r, w, e)
 
   pub calls-timer :
       allowed ≡ true → isLow resetPin first ≡ false → isWaiting (s .mode) ≡ false → externalCalls s first ≡ false → timerCalls s ≡ true
       → Takes TimerCall
   unfolding course pick
-  calls-timer a r w e t = rw (samples-decide program ram s first second lent, a, r, w, e, t)
+  calls-timer a r w e t = rw (samples-decide roms ram s first second lent, a, r, w, e, t)
 
   pub carries-out :
       allowed ≡ true → isLow resetPin first ≡ false → isWaiting (s .mode) ≡ false → externalCalls s first ≡ false → timerCalls s ≡ false
       → Takes CarryOut
   unfolding course pick
-  carries-out a r w e t = rw (samples-decide program ram s first second lent, a, r, w, e, t)
+  carries-out a r w e t = rw (samples-decide roms ram s first second lent, a, r, w, e, t)
 
   -- Samples allowed, RESET and INT high, no request, and a machine that runs: then none of the others.
   pub usual : (allowed && isHigh resetPin first && isHigh intPin first && not (s .request) && isRunning (s .mode)) ≡ true → Takes CarryOut

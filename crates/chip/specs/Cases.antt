@@ -5,8 +5,8 @@ use mathlib.Core.Bool.{true}
 use mathlib.Core.List.{List, [], _∷_, _++_}
 use lib.ListN.{length, getD, set}
 use Rattle.isa.specs.Choice.{oneIf}
-use Rattle.isa.specs.Reading.{under}
 use Rattle.isa.specs.declared.Set.{Set}
+use Rattle.machine.specs.Rom.{alone}
 use Rattle.machine.specs.State.{powerUp, withCore, withPc, withPsw, withFlags, withCount, withInterrupts, withPorts}
 use Rattle.machine.specs.declared.State.{State}
 use Rattle.machine.specs.Psw.{bitC, bitAc, sp}
@@ -20,9 +20,9 @@ pub record Case : Type 0 where
   pub look : Ended → List ℕ
   pub want : List ℕ
 
--- What is seen under a set.
+-- What is seen under a set, no second program being lent.
 abbrev pub seen : Set → Case → List ℕ
-seen set c = c .look (runOf (under set (c .program)) (c .ram) (c .state) (c .samples))
+seen set c = c .look (runOf (alone set (c .program)) (c .ram) (c .state) (c .samples))
 
 abbrev pub times : ℕ → ℕ → List ℕ
 times zero x = []

@@ -2,6 +2,7 @@ pub mod Admission
 pub mod Cases
 pub mod History
 pub mod Loop
+pub mod Outside
 pub mod Refusals
 pub mod Run
 pub mod Standby

@@ -6,9 +6,10 @@ use mathlib.Core.Bool.{true, false}
 use mathlib.Core.List.{List, [], _∷_}
 use mathlib.Core.Path.{_≡_}
 use lib.ListN.{length}
-use Rattle.isa.specs.Reading.{Program, under, byteAt}
+use Rattle.isa.specs.Reading.{byteAt}
 use Rattle.isa.specs.declared.Set.{Set}
 use Rattle.isa.specs.declared.Set.the-variants.{Intel, Nec}
+use Rattle.machine.specs.Rom.{Roms, alone}
 use Rattle.machine.specs.State.{withCore, withCount, withCounting, withInterrupts}
 use Rattle.machine.specs.declared.Counting.the-variants.{Timer}
 use Rattle.machine.specs.declared.State.{State}
@@ -24,8 +25,8 @@ abbrev pub pause : Set → ℕ
 pause Intel = 0x00
 pause Nec = 0x01
 
-abbrev pub rom : Set → Program
-rom set = under set (holding 1024 0 (0x55 ∷ pause set ∷ 0x04 ∷ 0x02 ∷ []))
+abbrev pub rom : Set → Roms
+rom set = alone set (holding 1024 0 (0x55 ∷ pause set ∷ 0x04 ∷ 0x02 ∷ []))
 
 -- At STRT T: as after power-up, but the counter holds c, and the timer interrupt is enabled.
 abbrev pub ready : ℕ → State

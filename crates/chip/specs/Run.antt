@@ -1,18 +1,21 @@
 -- A run is its steps, one by one.
 -- Assumes nothing.
 use Prim.Native.Nat.{ℕ, _+_}
+use mathlib.Core.Bool.{Bool, false}
 use mathlib.Core.List.{List, [], _∷_, _++_}
 use mathlib.Core.Path.{_≡_}
 use lib.Dec.{eqb}
 use Rattle.isa.specs.Choice.{pick}
-use Rattle.isa.specs.Reading.{Program}
+use Rattle.machine.specs.Rom.{Roms}
 use Rattle.machine.specs.declared.State.{State}
 use Rattle.effects.specs.Effect.{written}
 use Rattle.effects.specs.declared.Event.{Event}
 use Rattle.effects.specs.declared.Event.the-variants.{Quiet}
 use Rattle.chip.specs.Admission.{lentOf}
-use Rattle.chip.specs.Step.{Plan, planOf}
+use Rattle.chip.specs.Step.{Plan, planOf, reportOf, stepOf}
+use Rattle.chip.specs.declared.Played.{Played}
 use Rattle.chip.specs.declared.Ran.{Ran}
+use Rattle.chip.specs.declared.Report.{Report}
 
 -- How far a run has come: the RAM, the state, the samples used, the cycles spent, and the events of its steps in order.
 pub record Progress : Type 0 where
@@ -36,11 +39,6 @@ gone m p =
       events = m .events ++ (p .event ∷ []);
     }
 
--- The last of some events, e if there is none.
-abbrev pub lastFrom : Event → List Event → Event
-lastFrom e [] = e
-lastFrom e (f ∷ fs) = lastFrom f fs
-
 -- What a run returns, the RAM that it leaves, and the events of its steps in order.
 pub record Ended : Type 0 where
   pub ran : Ran
@@ -51,7 +49,7 @@ pub record Ended : Type 0 where
 abbrev pub ended : Progress → ℕ → Ended
 ended m number =
     record {
-      ran = record { number = number; state = m .state; used = m .used; cycles = m .cycles; event = lastFrom Quiet (m .events) };
+      ran = record { number = number; state = m .state; used = m .used; cycles = m .cycles };
       ram = m .ram;
       events = m .events;
     }
@@ -63,20 +61,50 @@ turned p m one two = pick (eqb (p .number) 0) (pick (eqb (p .used) 1) one two (g
 
 -- The run over the samples that are left. "A run steps while two samples remain, or until a refusal"; "0 if samples ran out". A step is
 -- given the samples x and y; where it used one, y is the next step's first.
-unfoldable pub runOver : Program → List ℕ → Progress → Ended
-runOver program [] m = ended m 0
-runOver program (x ∷ []) m = ended m 0
-runOver program (x ∷ (y ∷ rest)) m =
-    turned (planOf program (m .ram) (m .state) x y) m (runOver program (y ∷ rest)) (runOver program rest)
+unfoldable pub runOver : Roms → List ℕ → Progress → Ended
+runOver roms [] m = ended m 0
+runOver roms (x ∷ []) m = ended m 0
+runOver roms (x ∷ (y ∷ rest)) m =
+    turned (planOf roms (m .ram) (m .state) x y) m (runOver roms (y ∷ rest)) (runOver roms rest)
 
 -- "With 0 or 1 sample it checks 1, 2, 3 and does nothing."
-unfoldable pub runOf : Program → List ℕ → State → List ℕ → Ended
-runOf program ram s samples =
-    pick (eqb (lentOf program ram s) 0) (runOver program samples (begun ram s))
-    (ended (begun ram s) (lentOf program ram s))
+unfoldable pub runOf : Roms → List ℕ → State → List ℕ → Ended
+runOf roms ram s samples =
+    pick (eqb (lentOf roms ram s) 0) (runOver roms samples (begun ram s))
+    (ended (begun ram s) (lentOf roms ram s))
+
+-- Something holds of the state before each step of a run and of the step's first sample.
+unfoldable pub EachStep : (State → ℕ → Type 0) → Roms → List ℕ → Progress → Type 0
+EachStep P roms [] m = Unit {0}
+EachStep P roms (x ∷ []) m = Unit {0}
+EachStep P roms (x ∷ (y ∷ rest)) m =
+    P (m .state) x
+    × pick (eqb (planOf roms (m .ram) (m .state) x y .number) 0)
+    (pick (eqb (planOf roms (m .ram) (m .state) x y .used) 1) (EachStep P roms (y ∷ rest)) (EachStep P roms rest)
+    (gone m (planOf roms (m .ram) (m .state) x y)))
+    (Unit {0})
+
+-- What the first step of a run shows outside: nothing where there are no samples for one, or it is refused.
+abbrev pub unshown : Report
+unshown = record { event = Quiet; outside = 0 }
+
+unfoldable pub firstShown : Roms → List ℕ → State → List ℕ → Report
+firstShown roms ram s [] = unshown
+firstShown roms ram s (x ∷ []) = unshown
+firstShown roms ram s (x ∷ (y ∷ rest)) = reportOf (stepOf roms ram s x y)
+
+-- There is a first step, and it is accepted.
+unfoldable pub firstAccepted : Roms → List ℕ → State → List ℕ → Bool
+firstAccepted roms ram s [] = false
+firstAccepted roms ram s (x ∷ []) = false
+firstAccepted roms ram s (x ∷ (y ∷ rest)) = eqb (stepOf roms ram s x y .number) 0
+
+-- A run, with that if it is asked for.
+abbrev pub playedOf : Bool → Roms → List ℕ → State → List ℕ → Played
+playedOf asked roms ram s samples =
+    record { ran = runOf roms ram s samples .ran; shown = pick asked (firstShown roms ram s samples) unshown }
 
 -- The run w is the runs a and b, one after the other: it ends as b does, its totals are theirs added, and its events are a's and then b's.
--- (The event that each returns is its own last step's, and a run without steps has none.)
 pub record Joined (a b w : Ended) : Type 0 where
   pub number : w .ran .number ≡ b .ran .number
   pub state : w .ran .state ≡ b .ran .state

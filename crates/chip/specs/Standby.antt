@@ -9,10 +9,11 @@ use mathlib.Core.Path.{_≡_}
 use lib.ListN.{replicate}
 use Rattle.isa.specs.Choice.{oneIf}
 use Rattle.isa.specs.Numbers.{given}
-use Rattle.isa.specs.Reading.{Program, sized, entryAt, instructionAt}
+use Rattle.isa.specs.Reading.{sized, entryAt, instructionAt}
 use Rattle.isa.specs.Sets.{Standby}
 use Rattle.isa.specs.declared.Instruction.{Instruction}
 use Rattle.machine.specs.Pins.{intPin, resetPin, isLow}
+use Rattle.machine.specs.Rom.{Roms, seenBy}
 use Rattle.machine.specs.State.{powerUp, withCount, withCounting, withInterrupts, withMode, runningAt}
 use Rattle.machine.specs.declared.Counting.the-variants.{Timer, Counter}
 use Rattle.machine.specs.declared.Mode.{Mode}
@@ -53,40 +54,40 @@ later m n mode =
 
 -- ---- one instruction after the release
 -- The effect of the instruction i of n bytes at PC, where the machine was halted or stopped in the state s and is released.
-abbrev pub resumed : Program → List ℕ → State → Instruction → ℕ → ℕ → ℕ → Effect
-resumed program ram s i n first second =
-    executed i (program .bytes) ram (runningAt (withMode s Released) (pcAfter n (s .pc))) (s .pc) first second
+abbrev pub resumed : Roms → List ℕ → State → Instruction → ℕ → ℕ → ℕ → Effect
+resumed roms ram s i n first second =
+    executed i (seenBy roms first .bytes) ram (runningAt (withMode s Released) (pcAfter n (s .pc))) (s .pc) first second
 
 -- A run over a sample that releases the machine and the two samples after it carried out exactly one instruction, the one at PC, and no
 -- interrupt call. If that is neither HALT nor STOP the machine runs: the next step may be a call.
-pub record OneInstruction (program : Program) (ram : List ℕ) (s : State) (first second : ℕ) (e : Ended) : Type 0 where
+pub record OneInstruction (roms : Roms) (ram : List ℕ) (s : State) (first second : ℕ) (e : Ended) : Type 0 where
   pub instruction : Instruction
   pub bytes : ℕ
-  pub stands : instructionAt program (s .pc) ≡ given (sized instruction bytes)
+  pub stands : instructionAt (seenBy roms first) (s .pc) ≡ given (sized instruction bytes)
   pub number : e .ran .number ≡ 0
   pub state :
       e .ran .state
-      ≡ settled (resumed program ram s instruction bytes first second .state) (entryAt program (s .pc) .cycles)
-      (resumed program ram s instruction bytes first second .fresh) first second
-  pub memory : e .ram ≡ written ram (resumed program ram s instruction bytes first second .write)
-  pub cycles : e .ran .cycles ≡ entryAt program (s .pc) .cycles
-  pub used : e .ran .used ≡ 1 + entryAt program (s .pc) .cycles
-  pub events : e .events ≡ Quiet ∷ resumed program ram s instruction bytes first second .event ∷ []
+      ≡ settled (resumed roms ram s instruction bytes first second .state) (entryAt (seenBy roms first) (s .pc) .cycles)
+      (resumed roms ram s instruction bytes first second .fresh) first second
+  pub memory : e .ram ≡ written ram (resumed roms ram s instruction bytes first second .write)
+  pub cycles : e .ran .cycles ≡ entryAt (seenBy roms first) (s .pc) .cycles
+  pub used : e .ran .used ≡ 1 + entryAt (seenBy roms first) (s .pc) .cycles
+  pub events : e .events ≡ Quiet ∷ resumed roms ram s instruction bytes first second .event ∷ []
   pub runs : (Standby instruction → ⊥) → e .ran .state .mode ≡ Running
 
 -- It did so, or it was refused by 4, 5 or 6.
-pub data Resumes (program : Program) (ram : List ℕ) (s : State) (first second : ℕ) (e : Ended) : Type 0 where
-  carried-out : OneInstruction program ram s first second e → Resumes program ram s first second e
+pub data Resumes (roms : Roms) (ram : List ℕ) (s : State) (first second : ℕ) (e : Ended) : Type 0 where
+  carried-out : OneInstruction roms ram s first second e → Resumes roms ram s first second e
   not-carried-out :
-      (e .ran .number ≡ 4) ⊎ ((e .ran .number ≡ 5) ⊎ (e .ran .number ≡ 6)) → Resumes program ram s first second e
+      (e .ran .number ≡ 4) ⊎ ((e .ran .number ≡ 5) ⊎ (e .ran .number ≡ 6)) → Resumes roms ram s first second e
 
 -- The step is the call to location 7.
-pub record Calls7 (program : Program) (k : Progress) (first second : ℕ) : Type 0 where
-  pub call : courseAt program k first second ≡ accepted (called (withoutRequest (k .state)) 7) 2
-  pub fine : planAt program k first second .number ≡ 0
-  pub pc : after program k first second .state .pc ≡ 7
-  pub service : after program k first second .state .interrupts .service ≡ true
-  pub cycles : planAt program k first second .cycles ≡ 2
+pub record Calls7 (roms : Roms) (k : Progress) (first second : ℕ) : Type 0 where
+  pub call : courseAt roms k first second ≡ accepted (called (withoutRequest (k .state)) 7) 2
+  pub fine : planAt roms k first second .number ≡ 0
+  pub pc : after roms k first second .state .pc ≡ 7
+  pub service : after roms k first second .state .interrupts .service ≡ true
+  pub cycles : planAt roms k first second .cycles ≡ 2
 
 -- ---- cases
 -- Where one looks: 0 it runs, 1 is halted, 2 is stopped, 3 was just released; machine cycles and samples.

@@ -1,4 +1,4 @@
--- Document 01, "One step", with the steps of a machine that is halted or stopped (document 02, item 2).
+-- Document 01, "One step", with the steps of a machine that is halted or stopped and with the second program (document 02, items 2 and 7).
 -- Assumes nothing.
 use Prim.Native.Nat.{ℕ, _+_, _*_, _/_, _%_}
 use mathlib.Core.Bool.{Bool, true, false, not, _&&_}
@@ -9,9 +9,11 @@ use Rattle.isa.specs.Choice.{pick}
 use Rattle.isa.specs.Numbers.{Answer, given, refused}
 use Rattle.isa.specs.Reading.{Program, Sized, sized, nextPc, entryAt, instructionAt}
 use Rattle.isa.specs.Sheet.{makeOf}
+use Rattle.isa.specs.declared.Instruction.{Instruction}
 use Rattle.machine.specs.Counting.{counted}
 use Rattle.machine.specs.Mode.{isRunning, isWaiting}
 use Rattle.machine.specs.Pins.{intPin, t1Pin, resetPin, isHigh, isLow}
+use Rattle.machine.specs.Rom.{Roms, seenBy}
 use Rattle.machine.specs.State.{countOf, withCount, withInterrupts, withMode, runningAt}
 use Rattle.machine.specs.declared.Count.{Count}
 use Rattle.machine.specs.declared.Counting.{Counting}
@@ -25,14 +27,17 @@ use Rattle.effects.specs.declared.Event.the-variants.{Quiet}
 use Rattle.flow.specs.Stack.{pushed}
 use Rattle.execute.specs.Execute.{executed}
 use Rattle.chip.specs.Admission.{admission}
+use Rattle.chip.specs.Outside.{fromOutside}
 use Rattle.chip.specs.declared.Course as code
 use Rattle.chip.specs.declared.Fetch.{Fetch}
+use Rattle.chip.specs.declared.Moved.{Moved}
 use Rattle.chip.specs.declared.Outcome.{Outcome}
+use Rattle.chip.specs.declared.Report.{Report}
 use Rattle.chip.specs.declared.Turn.{Turn}
 use Rattle.chip.specs.declared.Turn.the-variants.{Refuse, Reset, Wait, ExternalCall, TimerCall, CarryOut}
 
 -- What a step does before its cycles are counted: an effect and its cycles, or a refusal, which changes nothing. `waited` says that the
--- machine was halted or stopped.
+-- machine was halted or stopped, `outside` how many bytes came from the second program.
 pub record Course : Type 0 where
   pub number : ℕ
   pub state : State
@@ -41,19 +46,19 @@ pub record Course : Type 0 where
   pub cycles : ℕ
   pub fresh : Bool
   pub waited : Bool
+  pub outside : ℕ
 
--- The code writes RAM in place, so what it answers is the rest.
+-- The code writes RAM in place, and tells apart what the step shows (`report_of`): so what it answers is the rest.
 abbrev pub courseAnswer : Course → code.Course
-courseAnswer c =
-    record { number = c .number; state = c .state; event = c .event; cycles = c .cycles; fresh = c .fresh; waited = c .waited }
+courseAnswer c = record { number = c .number; state = c .state; cycles = c .cycles; fresh = c .fresh; waited = c .waited }
 
 unfoldable pub declined : ℕ → State → Course
 declined number s =
-    record { number = number; state = s; event = Quiet; write = Nothing; cycles = 0; fresh = false; waited = false }
+    record { number = number; state = s; event = Quiet; write = Nothing; cycles = 0; fresh = false; waited = false; outside = 0 }
 
 unfoldable pub accepted : Effect → ℕ → Course
 accepted e cycles =
-    record { number = 0; state = e .state; event = e .event; write = e .write; cycles = cycles; fresh = e .fresh; waited = false }
+    record { number = 0; state = e .state; event = e .event; write = e .write; cycles = cycles; fresh = e .fresh; waited = false; outside = 0 }
 
 -- 1. "RESET low in the first sample: PC, SP, BS, DBF, F0, F1, TF, stored request, both enables, in-service and T0 clock go to 0; P1 and P2
 -- latches to FF; BUS not driven; counter stands still. All else but the last T1 level stays." And it "always leaves it running".
@@ -84,7 +89,7 @@ released s first = pick (isLow intPin first) (withMode s Released) s
 
 unfoldable pub waits : State → ℕ → Course
 waits s first =
-    record { number = 0; state = released s first; event = Quiet; write = Nothing; cycles = 0; fresh = false; waited = true }
+    record { number = 0; state = released s first; event = Quiet; write = Nothing; cycles = 0; fresh = false; waited = true; outside = 0 }
 
 -- 2. "if none is in service: external interrupt enabled and INT low in the first sample calls location 3; else timer interrupt enabled
 -- and a request stored clears the request and calls 7." And "after a release by INT one instruction runs before an interrupt may be called".
@@ -121,26 +126,41 @@ carriedBy (given (sized i n)) program ram s first second =
 unfoldable pub carried : Program → List ℕ → State → ℕ → ℕ → Course
 carried program ram s first second = carriedBy (instructionAt program (s .pc)) program ram s first second
 
+-- The same with its bytes that came from outside.
+abbrev pub withOutside : ℕ → Course → Course
+withOutside n c =
+    record {
+      number = c .number;
+      state = c .state;
+      event = c .event;
+      write = c .write;
+      cycles = c .cycles;
+      fresh = c .fresh;
+      waited = c .waited;
+      outside = n;
+    }
+
 -- The course of a step by its turn: its samples are refused, it is a reset, a wait, an interrupt call, or an instruction.
-abbrev pub courseBy : Turn → Program → List ℕ → State → ℕ → ℕ → Course
-courseBy Refuse program ram s first second = declined 6 s
-courseBy Reset program ram s first second = accepted (quiet (resetState s)) 1
-courseBy Wait program ram s first second = waits s first
-courseBy ExternalCall program ram s first second = accepted (called s 3) 2
-courseBy TimerCall program ram s first second = accepted (called (withoutRequest s) 7) 2
-courseBy CarryOut program ram s first second = carried program ram s first second
+abbrev pub courseBy : Turn → Roms → List ℕ → State → ℕ → ℕ → Course
+courseBy Refuse roms ram s first second = declined 6 s
+courseBy Reset roms ram s first second = accepted (quiet (resetState s)) 1
+courseBy Wait roms ram s first second = waits s first
+courseBy ExternalCall roms ram s first second = accepted (called s 3) 2
+courseBy TimerCall roms ram s first second = accepted (called (withoutRequest s) 7) 2
+courseBy CarryOut roms ram s first second =
+    withOutside (fromOutside roms first s) (carried (seenBy roms first) ram s first second)
 
 -- "Order: 1, 2, 3, 6; then reset; then an interrupt call (neither fetches)"; "External goes first". In a halted or stopped step "RESET low,
 -- tried first, is an ordinary reset step".
-unfoldable pub course : Program → List ℕ → State → ℕ → ℕ → Course
-course program ram s first second =
-    pick (not (eqb (admission program ram s first second) 0))
-    (declined (admission program ram s first second) s)
-    (pick (isLow resetPin first) (courseBy Reset program ram s first second)
-    (pick (isWaiting (s .mode)) (courseBy Wait program ram s first second)
-    (pick (externalCalls s first) (courseBy ExternalCall program ram s first second)
-    (pick (timerCalls s) (courseBy TimerCall program ram s first second)
-    (courseBy CarryOut program ram s first second)))))
+unfoldable pub course : Roms → List ℕ → State → ℕ → ℕ → Course
+course roms ram s first second =
+    pick (not (eqb (admission roms ram s first second) 0))
+    (declined (admission roms ram s first second) s)
+    (pick (isLow resetPin first) (courseBy Reset roms ram s first second)
+    (pick (isWaiting (s .mode)) (courseBy Wait roms ram s first second)
+    (pick (externalCalls s first) (courseBy ExternalCall roms ram s first second)
+    (pick (timerCalls s) (courseBy TimerCall roms ram s first second)
+    (courseBy CarryOut roms ram s first second)))))
 
 -- 4. "Then the cycles of the step, an interrupt call's two as well, are counted, one at a time, after its effects. The cycle of STRT T or
 -- STRT CNT itself isn't counted." "T1 is remembered every cycle, reset and STRT CNT too."
@@ -167,6 +187,7 @@ pub record Plan : Type 0 where
   pub write : Write
   pub cycles : ℕ
   pub used : ℕ
+  pub outside : ℕ
 
 -- Each machine cycle uses one sample, and a wait one. "A refused step returns the number, the state it got, no event and 0 cycles; RAM is
 -- unchanged."
@@ -180,21 +201,41 @@ planBy c s first second =
       write = c .write;
       cycles = c .cycles;
       used = pick (c .waited) 1 (c .cycles);
+      outside = c .outside;
     })
-    (record { number = c .number; state = s; event = Quiet; write = Nothing; cycles = 0; used = 0 })
+    (record { number = c .number; state = s; event = Quiet; write = Nothing; cycles = 0; used = 0; outside = 0 })
 
-abbrev pub planOf : Program → List ℕ → State → ℕ → ℕ → Plan
-planOf program ram s first second = planBy (course program ram s first second) s first second
+abbrev pub planOf : Roms → List ℕ → State → ℕ → ℕ → Plan
+planOf roms ram s first second = planBy (course roms ram s first second) s first second
 
 abbrev pub outcomeOf : Plan → Outcome
-outcomeOf p = record { number = p .number; state = p .state; event = p .event; cycles = p .cycles; used = p .used }
+outcomeOf p =
+    record { number = p .number; state = p .state; event = p .event; cycles = p .cycles; used = p .used; outside = p .outside }
+
+-- What a step does to the machine, and what it shows outside.
+abbrev pub movedOf : Outcome → Moved
+movedOf o = record { number = o .number; state = o .state; cycles = o .cycles; used = o .used }
+
+abbrev pub reportOf : Outcome → Report
+reportOf o = record { event = o .event; outside = o .outside }
+
+-- "A refused step returns the number, the state it got, no event and 0 cycles"; it used no sample, and no byte came from outside.
+abbrev pub refusedBy : ℕ → State → Outcome
+refusedBy number s = record { number = number; state = s; event = Quiet; cycles = 0; used = 0; outside = 0 }
 
 -- What a step answers, and the RAM that it leaves.
-abbrev pub stepOf : Program → List ℕ → State → ℕ → ℕ → Outcome
-stepOf program ram s first second = outcomeOf (planOf program ram s first second)
+abbrev pub stepOf : Roms → List ℕ → State → ℕ → ℕ → Outcome
+stepOf roms ram s first second = outcomeOf (planOf roms ram s first second)
 
-abbrev pub ramAfter : Program → List ℕ → State → ℕ → ℕ → List ℕ
-ramAfter program ram s first second = written ram (planOf program ram s first second .write)
+abbrev pub ramAfter : Roms → List ℕ → State → ℕ → ℕ → List ℕ
+ramAfter roms ram s first second = written ram (planOf roms ram s first second .write)
+
+-- What is shown is what an instruction that is carried out shows.
+pub record Shows (roms : Roms) (ram : List ℕ) (s : State) (first second : ℕ) (r : Report) : Type 0 where
+  pub event :
+      (i : Instruction) (n : ℕ) → instructionAt (seenBy roms first) (s .pc) ≡ given (sized i n)
+      → r .event ≡ executed i (seenBy roms first .bytes) ram (runningAt s (pcAfter n (s .pc))) (s .pc) first second .event
+  pub outside : r .outside ≡ fromOutside roms first s
 
 -- What is fetched at an address is what is read there.
 pub record Fetched (program : Program) (pc : ℕ) (f : Fetch) : Type 0 where

@@ -3,8 +3,8 @@
 use Prim.Native.Nat.{ℕ}
 use mathlib.Core.Bool.{Bool}
 use mathlib.Core.List.{List, _∷_}
-use Rattle.isa.specs.Reading.{under}
 use Rattle.isa.specs.declared.Set.{Set}
+use Rattle.machine.specs.Rom.{alone}
 use Rattle.machine.specs.State.{powerUp}
 use Rattle.chip.specs.Cases.{times, idle, blank}
 use Rattle.chip.specs.Run.{Ended, runOf}
@@ -23,7 +23,7 @@ waits =
 
 -- The run of it under a set from power-up, all pins high, over n samples.
 abbrev pub waited : Set → ℕ → Ended
-waited set n = runOf (under set waits) blank powerUp (times n idle)
+waited set n = runOf (alone set waits) blank powerUp (times n idle)
 
 -- What is seen at the end of a run.
 pub record Sight : Type 0 where

@@ -2,7 +2,6 @@
 use crate::Course;
 use crate::Turn;
 use effects::Effect;
-use effects::Event;
 use isa::Refusal;
 use isa::Set;
 use machine::Count;
@@ -16,8 +15,8 @@ ghost use Prim.Native.Nat.{ℕ, _≤_};
 ghost use mathlib.Core.List.{List};
 ghost use mathlib.Core.Path.{_≡_};
 ghost use lib.ListN.{length};
-ghost use Rattle.isa.specs.Reading.{Program, under};
 ghost use Rattle.isa.specs.Table.{packedRows};
+ghost use Rattle.machine.specs.Rom.{Roms, both, seenBy};
 ghost use Rattle.effects.specs.Effect as defined;
 ghost use Rattle.effects.specs.Effect.{answerOf, written};
 ghost use Rattle.chip.specs.Admission.{lentOf};
@@ -29,7 +28,6 @@ fn decline(number: u8, s: State) -> Course
     Course {
         number,
         state: s,
-        event: Event::Quiet,
         cycles: 0,
         fresh: false,
         waited: false,
@@ -40,11 +38,9 @@ fn accept(e: Effect, cycles: u8) -> Course
     ensures { λ r. ⌜ ((x : defined.Effect) → e ≡ answerOf x → r ≡ courseAnswer (accepted x cycles)) ⌝ }
 {
     let state = e.state;
-    let event = e.event;
     Course {
         number: 0,
         state,
-        event,
         cycles,
         fresh: e.fresh,
         waited: false,
@@ -102,7 +98,6 @@ fn wait(s: State, first: u32) -> Course
     Course {
         number: 0,
         state,
-        event: Event::Quiet,
         cycles: 0,
         fresh: false,
         waited: true,
@@ -148,6 +143,7 @@ fn carry_out(
     set: Set,
     table: &[u16; 256],
     program: &[u8],
+    outside: &[u8],
     ram: &mut [u8],
     s: State,
     first: u32,
@@ -155,22 +151,32 @@ fn carry_out(
 ) -> Course
     requires { ⌜ now table ≡ packedRows set ⌝ }
     requires { ⌜ 64 ≤ length (now ram) ⌝ }
-    ensures answer { λ r. ⌜ r ≡ courseAnswer (carried (under set (now (program .entry))) (now (ram .entry)) s first second) ⌝ }
-    ensures memory { λ r. ⌜ now (ram .exit) ≡ written (now (ram .entry)) (carried (under set (now (program .entry))) (now (ram .entry)) s first second .write) ⌝ }
+    ensures answer { λ r. ⌜ r ≡ courseAnswer (carried (seenBy (both set (now (program .entry)) (now (outside .entry))) first) (now (ram .entry)) s first second) ⌝ }
+    ensures memory { λ r. ⌜ now (ram .exit) ≡ written (now (ram .entry)) (carried (seenBy (both set (now (program .entry)) (now (outside .entry))) first) (now (ram .entry)) s first second .write) ⌝ }
 {
-    let f = crate::fetching::fetch_at(set, table, program, s.pc);
+    let ea = first / pins::EA % 2 == 1;
+    let f = crate::fetching::fetch_at(set, table, program, outside, ea, s.pc);
     if f.number != 0 {
         return decline(f.number, s);
     }
     let i = isa::decode::made(f.kind, f.code, f.second);
-    let e = execute::execute(i, program, ram, s.running_at(f.next), s.pc, first, second);
+    let e = execute::execute(
+        i,
+        program,
+        outside,
+        ram,
+        s.running_at(f.next),
+        s.pc,
+        first,
+        second,
+    );
     finish(e, f.cycles, s)
 }
 
 // The turn of a step. It is nearly always an instruction's, so that is looked for first: no sample is refused, RESET and INT are high,
 // no request is stored, and the machine runs. These exclude all other turns (the law `usual`).
-fn turn_of(s: State, first: u32, second: u32) -> Turn
-    ensures { λ t. ⌜ ((program : Program) (ram : List ℕ) → lentOf program ram s ≡ 0 → course program ram s first second ≡ courseBy t program ram s first second) ⌝ }
+pub fn turn_of(s: State, first: u32, second: u32) -> Turn
+    ensures { λ t. ⌜ ((roms : Roms) (ram : List ℕ) → lentOf roms ram s ≡ 0 → course roms ram s first second ≡ courseBy t roms ram s first second) ⌝ }
 {
     let allowed = crate::admission::samples_allowed(first, second);
     let mode = s.mode;
@@ -218,15 +224,16 @@ pub fn course_of(
     set: Set,
     table: &[u16; 256],
     program: &[u8],
+    outside: &[u8],
     ram: &mut [u8],
     s: State,
     first: u32,
     second: u32,
 ) -> Course
     requires { ⌜ now table ≡ packedRows set ⌝ }
-    requires { ⌜ lentOf (under set (now program)) (now ram) s ≡ 0 ⌝ }
-    ensures answer { λ r. ⌜ r ≡ courseAnswer (course (under set (now (program .entry))) (now (ram .entry)) s first second) ⌝ }
-    ensures memory { λ r. ⌜ now (ram .exit) ≡ written (now (ram .entry)) (course (under set (now (program .entry))) (now (ram .entry)) s first second .write) ⌝ }
+    requires { ⌜ lentOf (both set (now program) (now outside)) (now ram) s ≡ 0 ⌝ }
+    ensures answer { λ r. ⌜ r ≡ courseAnswer (course (both set (now (program .entry)) (now (outside .entry))) (now (ram .entry)) s first second) ⌝ }
+    ensures memory { λ r. ⌜ now (ram .exit) ≡ written (now (ram .entry)) (course (both set (now (program .entry)) (now (outside .entry))) (now (ram .entry)) s first second .write) ⌝ }
 {
     match turn_of(s, first, second) {
         Turn::Refuse => decline(isa::number(Refusal::SampleBits), s),
@@ -234,6 +241,6 @@ pub fn course_of(
         Turn::Wait => wait(s, first),
         Turn::ExternalCall => accept(call(s, ram, State::EXTERNAL_VECTOR), 2),
         Turn::TimerCall => accept(call(without_request(s), ram, State::TIMER_VECTOR), 2),
-        Turn::CarryOut => carry_out(set, table, program, ram, s, first, second),
+        Turn::CarryOut => carry_out(set, table, program, outside, ram, s, first, second),
     }
 }

@@ -8,13 +8,17 @@ ghost use mathlib.Core.Path.{_≡_};
 ghost use Rattle.chip.specs.Admission.{sampleAllowed, lentNumber};
 
 // 1, 2 or 3; 0 if none.
-pub fn lent_number(set: Set, program: usize, ram: usize, s: State) -> u8
-    ensures { λ n. ⌜ n ≡ lentNumber set program ram s ⌝ }
+pub fn lent_number(set: Set, program: usize, outside: usize, ram: usize, s: State) -> u8
+    ensures { λ n. ⌜ n ≡ lentNumber set program outside ram s ⌝ }
 {
     let long = (program == State::PROGRAM_8048)
         | (program == State::PROGRAM_8049)
         | (program == State::PROGRAM_8050);
     if !long {
+        return isa::number(Refusal::ProgramLength);
+    }
+    let second = (outside == 0) | (outside == State::PROGRAM_OUTSIDE);
+    if !second {
         return isa::number(Refusal::ProgramLength);
     }
     let wide = (ram == State::RAM_8048) | (ram == State::RAM_8049) | (ram == State::RAM_8050);

@@ -2,18 +2,27 @@
 use crate::Fetch;
 use isa::Refusal;
 use isa::Set;
+use machine::rom;
 ghost use mathlib.Core.Path.{_≡_};
 ghost use Rattle.isa.specs.Reading.{under};
 ghost use Rattle.isa.specs.Table.{packedRows};
+ghost use Rattle.machine.specs.Rom.{visible};
 ghost use Rattle.chip.specs.Step.{Fetched};
 
 // Each return is a literal: a helper that returns a struct of 8 bytes costs time (docs/PERFORMANCE.md).
-pub fn fetch_at(set: Set, table: &[u16; 256], program: &[u8], pc: u16) -> Fetch
+pub fn fetch_at(
+    set: Set,
+    table: &[u16; 256],
+    program: &[u8],
+    outside: &[u8],
+    ea: bool,
+    pc: u16,
+) -> Fetch
     requires { ⌜ now table ≡ packedRows set ⌝ }
-    ensures { λ f. ⌜ Fetched (under set (now (program .entry))) pc f ⌝ }
+    ensures { λ f. ⌜ Fetched (under set (visible (now (program .entry)) (now (outside .entry)) ea)) pc f ⌝ }
 {
-    let at = pc as usize;
-    if program.len() <= at {
+    let b = rom::fetch(program, outside, ea, pc);
+    if b.lacking {
         return Fetch {
             number: isa::number(Refusal::PastEnd),
             kind: 0,
@@ -24,20 +33,9 @@ pub fn fetch_at(set: Set, table: &[u16; 256], program: &[u8], pc: u16) -> Fetch
             cycles: 0,
         };
     }
-    let code = program[at];
+    let code = b.value;
     let e = isa::table::entry_in(table, code);
     let bytes = e.bytes;
-    if bytes == 0 {
-        return Fetch {
-            number: isa::number(Refusal::UndefinedCode),
-            kind: 0,
-            code: 0,
-            second: 0,
-            bytes: 0,
-            next: 0,
-            cycles: 0,
-        };
-    }
     let next = isa::next_pc(pc);
     if bytes == 1 {
         return Fetch {
@@ -50,8 +48,19 @@ pub fn fetch_at(set: Set, table: &[u16; 256], program: &[u8], pc: u16) -> Fetch
             cycles: e.cycles,
         };
     }
-    let behind = next as usize;
-    if program.len() <= behind {
+    if bytes == 0 {
+        return Fetch {
+            number: isa::number(Refusal::UndefinedCode),
+            kind: 0,
+            code: 0,
+            second: 0,
+            bytes: 0,
+            next: 0,
+            cycles: 0,
+        };
+    }
+    let d = rom::fetch(program, outside, ea, next);
+    if d.lacking {
         return Fetch {
             number: isa::number(Refusal::PastEnd),
             kind: 0,
@@ -66,7 +75,7 @@ pub fn fetch_at(set: Set, table: &[u16; 256], program: &[u8], pc: u16) -> Fetch
         number: 0,
         kind: e.kind,
         code,
-        second: program[behind],
+        second: d.value,
         bytes: 2,
         next: isa::next_pc(next),
         cycles: e.cycles,

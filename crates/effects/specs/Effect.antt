@@ -20,7 +20,7 @@ written ram Nothing = ram
 written ram (Byte at v) = set ram at v
 written ram (Pair at low high) = set (set ram at low) (at + 1) high
 
--- number is 5 if a table byte is past the program's end, else 0; fresh says that the instruction has started the counter.
+-- number is 5 if the memory that must answer lacks a table byte, else 0; fresh says that the instruction has started the counter.
 pub record Effect : Type 0 where
   pub number : ℕ
   pub state : State
@@ -28,6 +28,6 @@ pub record Effect : Type 0 where
   pub write : Write
   pub fresh : Bool
 
--- The code writes RAM in place, so what it answers is the rest.
+-- The code writes RAM in place, and who wants the event asks for it apart: so what it answers is the rest.
 abbrev pub answerOf : Effect → code.Effect
-answerOf e = record { number = e .number; state = e .state; event = e .event; fresh = e .fresh }
+answerOf e = record { number = e .number; state = e .state; fresh = e .fresh }

@@ -26,7 +26,7 @@ signalled s e = record { number = 0; state = s; event = e; write = Nothing; fres
 abbrev pub started : State → Effect
 started s = record { number = 0; state = s; event = Quiet; write = Nothing; fresh = true }
 
--- A byte is past the program's end: 5, and the state that the step got.
+-- The memory that must answer lacks a byte: 5, and the state that the step got.
 abbrev pub lacking : State → Effect
 lacking s = record { number = 5; state = s; event = Quiet; write = Nothing; fresh = false }
 

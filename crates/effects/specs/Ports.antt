@@ -44,8 +44,11 @@ joined OrlLatch x d = bitOr x d
 
 -- "MOVD, ORLD, ANLD give an event with operation, port 4-7 and A's low digit as it was before; MOVD A,Pp puts P2 pins 0-3 in A, high
 -- digit 0." "On our boards the P2 latch stays."
+abbrev pub digitMoved : DigitMove → State → ℕ → State
+digitMoved MovdRead s second = withA s (p2Pins second % 16)
+digitMoved MovdWrite s second = s
+digitMoved Orld s second = s
+digitMoved Anld s second = s
+
 abbrev pub expanderMoved : DigitMove → ℕ → State → ℕ → Effect
-expanderMoved MovdRead p s second = signalled (withA s (p2Pins second % 16)) (ExpanderMove MovdRead p (s .a % 16))
-expanderMoved MovdWrite p s second = signalled s (ExpanderMove MovdWrite p (s .a % 16))
-expanderMoved Orld p s second = signalled s (ExpanderMove Orld p (s .a % 16))
-expanderMoved Anld p s second = signalled s (ExpanderMove Anld p (s .a % 16))
+expanderMoved op p s second = signalled (digitMoved op s second) (ExpanderMove op p (s .a % 16))

@@ -6,7 +6,7 @@ ghost use mathlib.Core.Path.{_≡_};
 ghost use Prim.Native.Nat.{_<_};
 ghost use lib.ListN.{length};
 ghost use Rattle.effects.specs.Effect.{answerOf, written};
-ghost use Rattle.effects.specs.Moves.{quiet, stored, signalled, started, lacking};
+ghost use Rattle.effects.specs.Moves.{quiet, stored, started, lacking};
 
 pub mod memory; // registers and RAM
 pub mod moves; // XCH, XCHD, INC and DEC of a cell
@@ -23,12 +23,11 @@ pub enum Event {
     ExpanderMove(DigitMove, u8, u8),
 }
 
-// What an instruction does besides writing to RAM, which it does in place.
+// What an instruction does besides writing to RAM, which it does in place. Its event is asked for apart, by a single step alone.
 pub struct Effect {
-    // 5 if a table byte is past the program's end, else 0
+    // 5 if the memory that must answer lacks a table byte, else 0
     pub number: u8,
     pub state: State,
-    pub event: Event,
     // the instruction has started the counter, so that its own cycle isn't counted
     pub fresh: bool,
 }
@@ -39,7 +38,6 @@ pub fn quiet_effect(s: State) -> Effect
     Effect {
         number: 0,
         state: s,
-        event: Event::Quiet,
         fresh: false,
     }
 }
@@ -53,24 +51,12 @@ pub fn stored_effect(s: State, ram: &mut [u8], at: usize, v: u8) -> Effect
     quiet_effect(s)
 }
 
-pub fn signalled_effect(s: State, e: Event) -> Effect
-    ensures { λ r. ⌜ r ≡ answerOf (signalled s e) ⌝ }
-{
-    Effect {
-        number: 0,
-        state: s,
-        event: e,
-        fresh: false,
-    }
-}
-
 pub fn started_effect(s: State) -> Effect
     ensures { λ r. ⌜ r ≡ answerOf (started s) ⌝ }
 {
     Effect {
         number: 0,
         state: s,
-        event: Event::Quiet,
         fresh: true,
     }
 }
@@ -81,7 +67,6 @@ pub fn lacking_effect(s: State) -> Effect
     Effect {
         number: isa::number(Refusal::PastEnd),
         state: s,
-        event: Event::Quiet,
         fresh: false,
     }
 }

@@ -1,6 +1,4 @@
 // Ports, BUS and the expander.
-use crate::Effect;
-use crate::Event;
 use isa::DigitMove;
 use isa::Join;
 use isa::Latch;
@@ -8,8 +6,7 @@ use machine::Ports;
 use machine::State;
 use machine::pins;
 ghost use mathlib.Core.Path.{_≡_};
-ghost use Rattle.effects.specs.Effect.{answerOf};
-ghost use Rattle.effects.specs.Ports.{input, latchOf, output, joined, expanderMoved};
+ghost use Rattle.effects.specs.Ports.{input, latchOf, output, joined, digitMoved};
 
 // IN and INS: for a port, what is high on both its latch and its pins.
 pub fn read_pins(l: Latch, s: State, second: u32) -> State
@@ -78,25 +75,14 @@ pub fn join_latch(op: Join, x: u8, d: u8) -> u8
     }
 }
 
-pub fn move_digit(op: DigitMove, p: u8, s: State, second: u32) -> Effect
-    ensures { λ r. ⌜ r ≡ answerOf (expanderMoved op p s second) ⌝ }
+// What the expander's moves do to the chip itself.
+pub fn move_digit(op: DigitMove, s: State, second: u32) -> State
+    ensures { λ r. ⌜ r ≡ digitMoved op s second ⌝ }
 {
     match op {
-        DigitMove::MovdRead => crate::signalled_effect(
-            s.with_a((second / pins::P2 % 256 % 16) as u8),
-            Event::ExpanderMove(DigitMove::MovdRead, p, s.a % 16),
-        ),
-        DigitMove::MovdWrite => crate::signalled_effect(
-            s,
-            Event::ExpanderMove(DigitMove::MovdWrite, p, s.a % 16),
-        ),
-        DigitMove::Orld => crate::signalled_effect(
-            s,
-            Event::ExpanderMove(DigitMove::Orld, p, s.a % 16),
-        ),
-        DigitMove::Anld => crate::signalled_effect(
-            s,
-            Event::ExpanderMove(DigitMove::Anld, p, s.a % 16),
-        ),
+        DigitMove::MovdRead => s.with_a((second / pins::P2 % 256 % 16) as u8),
+        DigitMove::MovdWrite => s,
+        DigitMove::Orld => s,
+        DigitMove::Anld => s,
     }
 }

@@ -1,17 +1,13 @@
 -- The families of instructions that never write to RAM.
 -- Assumes nothing.
-use Prim.Native.Nat.{ℕ}
 use mathlib.Core.Bool.{Bool, true, false}
 use mathlib.Core.Path.{_≡_, refl}
 use Rattle.isa.specs.Choice.{pick}
-use Rattle.isa.specs.declared.DigitMove.{DigitMove}
-use Rattle.isa.specs.declared.DigitMove.the-variants.{MovdRead, MovdWrite, Orld, Anld}
 use Rattle.isa.specs.declared.Switch.{Switch}
 use Rattle.isa.specs.declared.Switch.the-variants.{EnI, DisI, Ent0Clk, SelMb0, SelMb1, SelRb0, SelRb1, EnTcnti, DisTcnti, StopTcnt, StrtCnt, StrtT}
 use Rattle.machine.specs.declared.State.{State}
 use Rattle.effects.specs.Effect.{Nothing}
 use Rattle.effects.specs.Moves.{quiet, lacking}
-use Rattle.effects.specs.Ports.{expanderMoved}
 use Rattle.flow.specs.Control.{switched}
 
 pub switch-writes : (op : Switch) (s : State) → switched op s .write ≡ Nothing
@@ -27,12 +23,6 @@ switch-writes DisTcnti s = refl
 switch-writes StopTcnt s = refl
 switch-writes StrtCnt s = refl
 switch-writes StrtT s = refl
-
-pub expander-writes : (op : DigitMove) (p : ℕ) (s : State) (second : ℕ) → expanderMoved op p s second .write ≡ Nothing
-expander-writes MovdRead p s second = refl
-expander-writes MovdWrite p s second = refl
-expander-writes Orld p s second = refl
-expander-writes Anld p s second = refl
 
 -- MOVP, MOVP3 and JMPP.
 pub table-writes : (b : Bool) (x y : State) → pick b (lacking x) (quiet y) .write ≡ Nothing

@@ -1,11 +1,9 @@
 // What each of the 98 instructions does to the state, to RAM and to the world outside.
 use effects::Effect;
-use effects::Event;
 use effects::memory;
 use effects::moves;
 use effects::ports;
 use effects::quiet_effect;
-use effects::signalled_effect;
 use effects::stored_effect;
 use flow::control;
 use flow::jumps;
@@ -15,9 +13,12 @@ use isa::pages;
 use machine::Count;
 use machine::Mode;
 use machine::State;
+use machine::pins;
 ghost use mathlib.Core.Path.{_≡_};
 ghost use Prim.Native.Nat.{_≤_};
 ghost use lib.ListN.{length};
+ghost use Rattle.machine.specs.Pins.{eaPin, isHigh};
+ghost use Rattle.machine.specs.Rom.{visible};
 ghost use Rattle.effects.specs.Effect.{answerOf, written};
 ghost use Rattle.execute.specs.Execute.{executed, withT};
 
@@ -38,6 +39,7 @@ fn with_t(s: State, t: u8) -> State
 pub fn execute(
     i: Instruction,
     program: &[u8],
+    outside: &[u8],
     ram: &mut [u8],
     s: State,
     base: u16,
@@ -45,8 +47,8 @@ pub fn execute(
     second: u32,
 ) -> Effect
     requires { ⌜ 64 ≤ length (now ram) ⌝ }
-    ensures answer { λ r. ⌜ r ≡ answerOf (executed i (now (program .entry)) (now (ram .entry)) s base first second) ⌝ }
-    ensures memory { λ r. ⌜ now (ram .exit) ≡ written (now (ram .entry)) (executed i (now (program .entry)) (now (ram .entry)) s base first second .write) ⌝ }
+    ensures answer { λ r. ⌜ r ≡ answerOf (executed i (visible (now (program .entry)) (now (outside .entry)) (isHigh eaPin first)) (now (ram .entry)) s base first second) ⌝ }
+    ensures memory { λ r. ⌜ now (ram .exit) ≡ written (now (ram .entry)) (executed i (visible (now (program .entry)) (now (outside .entry)) (isHigh eaPin first)) (now (ram .entry)) s base first second .write) ⌝ }
 {
     match i {
         Instruction::Alu(op, from) => quiet_effect(accumulator::operate(
@@ -58,7 +60,14 @@ pub fn execute(
         Instruction::Djnz(r, d) => jumps::djnz(s, ram, memory::register(s.psw, r), base, d),
         Instruction::Branch(c, d) => quiet_effect(jumps::branch(c, s, base, d, first)),
         Instruction::Jmp(a) => quiet_effect(s.with_pc(jumps::far_target(s, a))),
-        Instruction::Jmpp => jumps::jump_by_table(program, s, base, pages::jmpp_address(base, s.a)),
+        Instruction::Jmpp => jumps::jump_by_table(
+            program,
+            outside,
+            first / pins::EA % 2 == 1,
+            s,
+            base,
+            pages::jmpp_address(base, s.a),
+        ),
         Instruction::Control(op) => control::switch(op, s),
         Instruction::MovA(from) => quiet_effect(s.with_a(memory::source(from, &ram[..], s.psw))),
         Instruction::Mov(to) => {
@@ -71,16 +80,24 @@ pub fn execute(
         },
         Instruction::MovAPsw => quiet_effect(s.with_a(s.psw)),
         Instruction::MovPswA => quiet_effect(s.with_psw(s.a / 16 * 16 + 8 + s.a % 8)),
-        Instruction::Movp => jumps::load_table(program, s, base, pages::movp_address(base, s.a)),
-        Instruction::Movp3 => jumps::load_table(program, s, base, pages::movp3_address(base, s.a)),
-        Instruction::MovxRead(r) => signalled_effect(
-            s.with_a((second % 256) as u8),
-            Event::ExternalRead(memory::cell(&ram[..], memory::register(s.psw, r))),
-        ),
-        Instruction::MovxWrite(r) => signalled_effect(
+        Instruction::Movp => jumps::load_table(
+            program,
+            outside,
+            first / pins::EA % 2 == 1,
             s,
-            Event::ExternalWrite(memory::cell(&ram[..], memory::register(s.psw, r)), s.a),
+            base,
+            pages::movp_address(base, s.a),
         ),
+        Instruction::Movp3 => jumps::load_table(
+            program,
+            outside,
+            first / pins::EA % 2 == 1,
+            s,
+            base,
+            pages::movp3_address(base, s.a),
+        ),
+        Instruction::MovxRead(_r) => quiet_effect(s.with_a((second % 256) as u8)),
+        Instruction::MovxWrite(_r) => quiet_effect(s),
         Instruction::Xch(c) => {
             let at = memory::place(c, &ram[..], s.psw);
             moves::exchange(s, ram, at)
@@ -98,7 +115,7 @@ pub fn execute(
         )),
         Instruction::In(l) => quiet_effect(ports::read_pins(l, s, second)),
         Instruction::Outl(l) => quiet_effect(ports::write_latch(l, s, s.a)),
-        Instruction::Expander(op, p) => ports::move_digit(op, p, s, second),
+        Instruction::Expander(op, _p) => quiet_effect(ports::move_digit(op, s, second)),
         Instruction::Dec(r) => moves::raise(s, ram, memory::register(s.psw, r), 255),
         Instruction::Inc(c) => {
             let at = memory::place(c, &ram[..], s.psw);

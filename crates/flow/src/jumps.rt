@@ -6,9 +6,11 @@ use isa::pages;
 use machine::Count;
 use machine::State;
 use machine::pins;
+use machine::rom;
 ghost use mathlib.Core.Path.{_≡_};
 ghost use Prim.Native.Nat.{_<_};
 ghost use lib.ListN.{length};
+ghost use Rattle.machine.specs.Rom.{visible};
 ghost use Rattle.effects.specs.Effect.{answerOf, written};
 ghost use Rattle.flow.specs.Jumps.{farTarget, jumpIf, withoutTf, branched, decremented, tableLoaded, tableJumped};
 
@@ -72,23 +74,37 @@ pub fn djnz(s: State, ram: &mut [u8], at: usize, base: u16, d: u8) -> Effect
 }
 
 // MOVP and MOVP3.
-pub fn load_table(program: &[u8], s: State, base: u16, address: u16) -> Effect
-    ensures { λ r. ⌜ r ≡ answerOf (tableLoaded (now (program .entry)) s base address) ⌝ }
+pub fn load_table(
+    program: &[u8],
+    outside: &[u8],
+    ea: bool,
+    s: State,
+    base: u16,
+    address: u16,
+) -> Effect
+    ensures { λ r. ⌜ r ≡ answerOf (tableLoaded (visible (now (program .entry)) (now (outside .entry)) ea) s base address) ⌝ }
 {
-    let at = address as usize;
-    if program.len() <= at {
+    let b = rom::fetch(program, outside, ea, address);
+    if b.lacking {
         return effects::lacking_effect(s.with_pc(base));
     }
-    effects::quiet_effect(s.with_a(program[at]))
+    effects::quiet_effect(s.with_a(b.value))
 }
 
 // JMPP.
-pub fn jump_by_table(program: &[u8], s: State, base: u16, address: u16) -> Effect
-    ensures { λ r. ⌜ r ≡ answerOf (tableJumped (now (program .entry)) s base address) ⌝ }
+pub fn jump_by_table(
+    program: &[u8],
+    outside: &[u8],
+    ea: bool,
+    s: State,
+    base: u16,
+    address: u16,
+) -> Effect
+    ensures { λ r. ⌜ r ≡ answerOf (tableJumped (visible (now (program .entry)) (now (outside .entry)) ea) s base address) ⌝ }
 {
-    let at = address as usize;
-    if program.len() <= at {
+    let b = rom::fetch(program, outside, ea, address);
+    if b.lacking {
         return effects::lacking_effect(s.with_pc(base));
     }
-    effects::quiet_effect(s.with_pc(pages::in_page(base, program[at])))
+    effects::quiet_effect(s.with_pc(pages::in_page(base, b.value)))
 }

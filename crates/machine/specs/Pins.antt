@@ -1,5 +1,5 @@
 -- "Pins: a list of pin samples, one 32-bit number for each machine cycle. Bits 0-7 BUS, 8-15 P1, 16-23 P2, 24 INT, 25 T0, 26 T1, 27 RESET,
--- as levels."
+-- as levels." And "EA is bit 28" (document 02, item 7).
 -- Assumes nothing.
 use Prim.Native.Nat.{ℕ, _/_, _%_, _^_}
 use mathlib.Core.Bool.{Bool}
@@ -16,6 +16,9 @@ t1Pin = 26
 
 abbrev pub resetPin : ℕ
 resetPin = 27
+
+abbrev pub eaPin : ℕ
+eaPin = 28
 
 -- A pin's level in a sample.
 abbrev pub isHigh : ℕ → ℕ → Bool

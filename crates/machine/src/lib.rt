@@ -6,6 +6,7 @@ ghost use Rattle.machine.specs.State.{powerUp, permitted, countOf, withC
 
 pub mod cycle; // one machine cycle
 pub mod pins; // the bits of a pin sample
+pub mod rom; // program memory, inside and outside
 
 // "The counter stands still, counts cycles or counts falls of T1: one of the three."
 pub enum Counting {
@@ -107,6 +108,9 @@ impl State {
     pub const PROGRAM_8049: usize = 2048;
 
     pub const PROGRAM_8050: usize = 4096;
+
+    // The second program, outside of the chip, if there is one.
+    pub const PROGRAM_OUTSIDE: usize = 4096;
 
     pub const RAM_8048: usize = 64;
 

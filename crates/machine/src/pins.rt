@@ -11,5 +11,7 @@ pub const T1: u32 = 0x400_0000;
 
 pub const RESET: u32 = 0x800_0000;
 
-// "Bits 28-31 are 0": a sample is below this.
-pub const LIMIT: u32 = 0x1000_0000;
+pub const EA: u32 = 0x1000_0000;
+
+// Bits 29-31 are 0: a sample is below this.
+pub const LIMIT: u32 = 0x2000_0000;

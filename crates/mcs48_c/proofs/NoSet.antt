@@ -12,18 +12,19 @@ use Rattle.mcs48_c.proofs.Naming.{none-25}
 
 module _ (name : ℕ) (none : 1 < name) (program : List ℕ) where
   pub step-25 :
-      (b : Lent) (first second : ℕ)
-      → (packedStep (stepFrom name program (b .ram) (b .bytes) first second) ≡ 25) × (stepLeaves name program b first second ≡ b)
+      (outside : List ℕ) (b : Lent) (first second : ℕ)
+      → (packedStep (stepFrom name program outside (b .ram) (b .bytes) first second) ≡ 25)
+      × (stepLeaves name program outside b first second ≡ b)
   unfolding packed pick
-  step-25 b first second = rw (none-25 name none) (refl, refl)
+  step-25 outside b first second = rw (none-25 name none) (refl, refl)
 
   -- The totals are written, as 0 and 0.
   pub run-25 :
-      (b : Lent) (samples totals : List ℕ)
-      → (runFrom name program (b .ram) (b .bytes) samples .ran .number ≡ 25) × (runLeaves name program b samples ≡ b)
-      × (totalsAfter totals (runFrom name program (b .ram) (b .bytes) samples .ran) ≡ totalled totals 0 0)
+      (outside : List ℕ) (b : Lent) (samples totals : List ℕ)
+      → (runFrom name program outside (b .ram) (b .bytes) samples .ran .number ≡ 25) × (runLeaves name program outside b samples ≡ b)
+      × (totalsAfter totals (runFrom name program outside (b .ram) (b .bytes) samples .ran) ≡ totalled totals 0 0)
   unfolding pick
-  run-25 b samples totals = rw (none-25 name none) (refl, refl, refl)
+  run-25 outside b samples totals = rw (none-25 name none) (refl, refl, refl)
 
   pub read-25 : (a : ℕ) → packedRead program a (readFrom name program a) ≡ 25
   unfolding packed

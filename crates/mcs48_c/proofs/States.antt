@@ -20,7 +20,7 @@ use Rattle.machine.specs.State.{permitted}
 use Rattle.machine.specs.declared.Mode.{Mode}
 use Rattle.machine.specs.declared.Mode.the-variants.{Running, HaltMode, StopMode, Released}
 use Rattle.machine.specs.declared.State.{State}
-use Rattle.chip.specs.Admission.{programAllowed, ramAllowed, lentNumber}
+use Rattle.chip.specs.Admission.{programAllowed, outsideAllowed, ramAllowed, lentNumber}
 use Rattle.mcs48_c.specs.Bytes.{countingByte, countingOf, modeByte, modeOf, bytesOf, formed, stateIn, stateOf}
 
 flag-fits : (b : Bool) → ltb (oneIf b) 2 ≡ true
@@ -63,22 +63,23 @@ unfolding stateOf bytesOf pick
 state-back s = simp (flag-fits, flag-back, counting-fits, counting-back, mode-fits, mode-back, pc-back)
 
 -- Order 1, 2, 3: where the lengths are allowed, bytes that no state has give 3, whatever the set.
-module _ (set : Set) (bytes : List ℕ) (program ram : ℕ) (p : programAllowed program ≡ true) (r : ramAllowed ram ≡ true) where
-  pub no-state-3 : (eqb (length bytes) 24 && formed bytes) ≡ false → lentNumber set program ram (stateOf bytes) ≡ 3
+module _ (set : Set) (bytes : List ℕ) (program outside ram : ℕ) (p : programAllowed program ≡ true) (o : outsideAllowed outside ≡ true)
+    (r : ramAllowed ram ≡ true) where
+  pub no-state-3 : (eqb (length bytes) 24 && formed bytes) ≡ false → lentNumber set program outside ram (stateOf bytes) ≡ 3
   unfolding lentNumber stateOf pick
   no-state-3 h = go (eqb (length bytes) 24) (formed bytes) refl refl h
     where
       go :
           (x y : Bool) → eqb (length bytes) 24 ≡ x → formed bytes ≡ y → (x && y) ≡ false
-          → lentNumber set program ram (stateOf bytes) ≡ 3
+          → lentNumber set program outside ram (stateOf bytes) ≡ 3
       go true true e f z = let t : true ≡ false = z in cc
-      go true false e f z = rw (p, r, e, f)
-      go false y e f z = rw (p, r, e)
+      go true false e f z = rw (p, o, r, e, f)
+      go false y e f z = rw (p, o, r, e)
 
   -- A state that the set does not permit gives 3 too.
-  outside-3 : permitted set (stateOf bytes) ≡ false → lentNumber set program ram (stateOf bytes) ≡ 3
+  outside-3 : permitted set (stateOf bytes) ≡ false → lentNumber set program outside ram (stateOf bytes) ≡ 3
   unfolding lentNumber pick
-  outside-3 h = rw (p, r, h)
+  outside-3 h = rw (p, o, r, h)
 
 -- "3 for any but running under Intel": so where byte 20 is not 0.
 not-running : (n : ℕ) → (n ≡ 0 → ⊥) → isRunning (modeOf n) ≡ false
@@ -95,16 +96,16 @@ and-false true y h = h
 and-false false y h = refl
 
 pub intel-runs-3 :
-    (bytes : List ℕ) (program ram : ℕ) → programAllowed program ≡ true → ramAllowed ram ≡ true
-    → (byteAt bytes 20 ≡ 0 → ⊥) → lentNumber Intel program ram (stateOf bytes) ≡ 3
+    (bytes : List ℕ) (program outside ram : ℕ) → programAllowed program ≡ true → outsideAllowed outside ≡ true → ramAllowed ram ≡ true
+    → (byteAt bytes 20 ≡ 0 → ⊥) → lentNumber Intel program outside ram (stateOf bytes) ≡ 3
 unfolding stateOf pick
-intel-runs-3 bytes program ram p r n = go (eqb (length bytes) 24) (formed bytes) refl refl
+intel-runs-3 bytes program outside ram p o r n = go (eqb (length bytes) 24) (formed bytes) refl refl
   where
-    go : (x y : Bool) → eqb (length bytes) 24 ≡ x → formed bytes ≡ y → lentNumber Intel program ram (stateOf bytes) ≡ 3
+    go : (x y : Bool) → eqb (length bytes) 24 ≡ x → formed bytes ≡ y → lentNumber Intel program outside ram (stateOf bytes) ≡ 3
     go true true e f =
-        outside-3 Intel bytes program ram p r
+        outside-3 Intel bytes program outside ram p o r
         (rw (e, f)
         (and-false (ltb (stateIn bytes .pc) 4096 && ltb (stateIn bytes .divider) 32 && eqb (stateIn bytes .psw / 8 % 2) 1) _
         (not-running (byteAt bytes 20) n)))
-    go true false e f = no-state-3 Intel bytes program ram p r (rw (e, f))
-    go false y e f = no-state-3 Intel bytes program ram p r (rw e)
+    go true false e f = no-state-3 Intel bytes program outside ram p o r (rw (e, f))
+    go false y e f = no-state-3 Intel bytes program outside ram p o r (rw e)

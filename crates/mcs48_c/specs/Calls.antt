@@ -8,34 +8,37 @@ use lib.ListN.{length, set}
 use Rattle.isa.specs.Choice.{pick}
 use Rattle.isa.specs.Numbers.{Answer, refused}
 use Rattle.isa.specs.Reading.{Sized, under, readOf}
-use Rattle.machine.specs.declared.State.{State}
-use Rattle.effects.specs.declared.Event.the-variants.{Quiet}
-use Rattle.chip.specs.Run.{Ended, begun, ended, runOf}
-use Rattle.chip.specs.Step.{stepOf, ramAfter}
+use Rattle.machine.specs.Rom.{both}
+use Rattle.chip.specs.Run.{Ended, begun, ended, firstShown, runOf, unshown}
+use Rattle.chip.specs.Step.{refusedBy, stepOf, ramAfter}
 use Rattle.chip.specs.declared.Outcome.{Outcome}
 use Rattle.chip.specs.declared.Ran.{Ran}
+use Rattle.chip.specs.declared.Report.{Report}
 use Rattle.listing.specs.Listing.{Shown, listedOf, lineAfter}
 use Rattle.mcs48_c.specs.declared.Spent.{Spent}
 use Rattle.mcs48_c.specs.Bytes.{stateOf, holding}
 use Rattle.mcs48_c.specs.Naming.{setOf, byNamed}
 
--- "A refused step returns the number, the state it got, no event and 0 cycles", and used no sample.
-abbrev pub refusedStep : State → ℕ → Outcome
-refusedStep s number = record { number = number; state = s; event = Quiet; cycles = 0; used = 0 }
+-- A step from the state that lent bytes stand for, and the RAM that it leaves. `program` is in the chip, `outside` the second one, which is
+-- empty where there is none.
+abbrev pub stepFrom : ℕ → List ℕ → List ℕ → List ℕ → List ℕ → ℕ → ℕ → Outcome
+stepFrom name program outside ram bytes first second =
+    byNamed (setOf name) (λ set. stepOf (both set program outside) ram (stateOf bytes) first second)
+    (λ number. refusedBy number (stateOf bytes))
 
--- A step from the state that lent bytes stand for, and the RAM that it leaves.
-abbrev pub stepFrom : ℕ → List ℕ → List ℕ → List ℕ → ℕ → ℕ → Outcome
-stepFrom name program ram bytes first second =
-    byNamed (setOf name) (λ set. stepOf (under set program) ram (stateOf bytes) first second) (refusedStep (stateOf bytes))
-
-abbrev pub ramFrom : ℕ → List ℕ → List ℕ → List ℕ → ℕ → ℕ → List ℕ
-ramFrom name program ram bytes first second =
-    byNamed (setOf name) (λ set. ramAfter (under set program) ram (stateOf bytes) first second) (λ number. ram)
+abbrev pub ramFrom : ℕ → List ℕ → List ℕ → List ℕ → List ℕ → ℕ → ℕ → List ℕ
+ramFrom name program outside ram bytes first second =
+    byNamed (setOf name) (λ set. ramAfter (both set program outside) ram (stateOf bytes) first second) (λ number. ram)
 
 -- A run from that state: what it returns, the RAM that it leaves, and its events.
-abbrev pub runFrom : ℕ → List ℕ → List ℕ → List ℕ → List ℕ → Ended
-runFrom name program ram bytes samples =
-    byNamed (setOf name) (λ set. runOf (under set program) ram (stateOf bytes) samples) (ended (begun ram (stateOf bytes)))
+abbrev pub runFrom : ℕ → List ℕ → List ℕ → List ℕ → List ℕ → List ℕ → Ended
+runFrom name program outside ram bytes samples =
+    byNamed (setOf name) (λ set. runOf (both set program outside) ram (stateOf bytes) samples) (ended (begun ram (stateOf bytes)))
+
+-- What the first step of that run shows outside.
+abbrev pub shownFrom : ℕ → List ℕ → List ℕ → List ℕ → List ℕ → List ℕ → Report
+shownFrom name program outside ram bytes samples =
+    byNamed (setOf name) (λ set. firstShown (both set program outside) ram (stateOf bytes) samples) (λ number. unshown)
 
 -- What is read at an address.
 abbrev pub readFrom : ℕ → List ℕ → ℕ → Answer Sized
@@ -48,9 +51,9 @@ listedFrom name program a room = byNamed (setOf name) (λ set. listedOf (under s
 abbrev pub lineFrom : ℕ → List ℕ → ℕ → List ℕ → List ℕ
 lineFrom name program a old = byNamed (setOf name) (λ set. lineAfter (under set program) a old) (λ number. old)
 
--- What is left of a run's answer once its state is in the lent bytes.
-abbrev pub spent : Ran → Spent
-spent r = record { number = r .number; used = r .used; cycles = r .cycles; event = r .event }
+-- What is left of a run's answer once its state is in the lent bytes, with what its first step shows.
+abbrev pub spent : Ran → Report → Spent
+spent r shown = record { number = r .number; used = r .used; cycles = r .cycles; shown = shown }
 
 -- The state's buffer after a step: "A refused step returns .. the state it got".
 abbrev pub afterStep : List ℕ → Outcome → List ℕ

@@ -19,15 +19,16 @@ packed b0 b1 b2 b3 b4 = b0 + b1 * 2 ^ 8 + b2 * 2 ^ 16 + b3 * 2 ^ 24 + b4 * 2 ^ 3
 abbrev pub packedRefusal : ℕ → ℕ
 packedRefusal number = packed number 0 0 0 0
 
--- A step: the number, the machine cycles, and the event's number, its address or port, its data or digit; and in byte 6 the samples used.
+-- A step: the number, the machine cycles, and the event's number, its address or port, its data or digit; in byte 5 how many bytes came
+-- from outside, and in byte 6 the samples used.
 abbrev pub packedEvent : ℕ → ℕ → Event → ℕ
 packedEvent number cycles e = packed number cycles (eventAs e .number) (eventAs e .place) (eventAs e .value)
 
-abbrev pub packedUsed : ℕ → ℕ → ℕ → Event → ℕ
-packedUsed number cycles used e = packedEvent number cycles e + used * 2 ^ 48
+abbrev pub packedUsed : ℕ → ℕ → ℕ → ℕ → Event → ℕ
+packedUsed number cycles used outside e = packedEvent number cycles e + outside * 2 ^ 40 + used * 2 ^ 48
 
 abbrev pub packedStep : Outcome → ℕ
-packedStep o = packedUsed (o .number) (o .cycles) (o .used) (o .event)
+packedStep o = packedUsed (o .number) (o .cycles) (o .used) (o .outside) (o .event)
 
 -- What the reader gives at an address: 0, the length, and the instruction's bytes. The writer writes the very bytes that stand there
 -- (`read-write` in crate writer), so they are named by where they stand; the second by the next PC, and 0 if there is none.

@@ -4,8 +4,9 @@
 use Prim.Native.Nat.{ℕ, _+_}
 use mathlib.Core.List.{List}
 use mathlib.Core.Path.{_≡_}
-use Rattle.isa.specs.Reading.{under, byteAt}
+use Rattle.isa.specs.Reading.{byteAt}
 use Rattle.isa.specs.declared.Set.{Set}
+use Rattle.machine.specs.Rom.{both}
 use Rattle.chip.specs.History.{Undisturbed}
 use Rattle.mcs48_c.specs.Bytes.{stateOf}
 use Rattle.mcs48_c.specs.Calls.{stepFrom, ramFrom, runFrom, afterStep, afterRun}
@@ -16,33 +17,35 @@ pub record Lent : Type 0 where
   pub bytes : List ℕ
 
 -- What a call of mcs48_run leaves in them.
-abbrev pub runLeaves : ℕ → List ℕ → Lent → List ℕ → Lent
-runLeaves name program k samples =
+abbrev pub runLeaves : ℕ → List ℕ → List ℕ → Lent → List ℕ → Lent
+runLeaves name program outside k samples =
     record {
-      ram = runFrom name program (k .ram) (k .bytes) samples .ram;
-      bytes = afterRun (k .bytes) (runFrom name program (k .ram) (k .bytes) samples .ran);
+      ram = runFrom name program outside (k .ram) (k .bytes) samples .ram;
+      bytes = afterRun (k .bytes) (runFrom name program outside (k .ram) (k .bytes) samples .ran);
     }
 
 -- What a call of mcs48_step leaves in them.
-abbrev pub stepLeaves : ℕ → List ℕ → Lent → ℕ → ℕ → Lent
-stepLeaves name program k first second =
+abbrev pub stepLeaves : ℕ → List ℕ → List ℕ → Lent → ℕ → ℕ → Lent
+stepLeaves name program outside k first second =
     record {
-      ram = ramFrom name program (k .ram) (k .bytes) first second;
-      bytes = afterStep (k .bytes) (stepFrom name program (k .ram) (k .bytes) first second);
+      ram = ramFrom name program outside (k .ram) (k .bytes) first second;
+      bytes = afterStep (k .bytes) (stepFrom name program outside (k .ram) (k .bytes) first second);
     }
 
 -- Calls of mcs48_step on these buffers, one after the other and each accepted, with the machine cycles that they answered added up.
-pub data Stepped (name : ℕ) (program : List ℕ) (b : Lent) : Lent → ℕ → Type 0 where
-  none : Stepped name program b b 0
+pub data Stepped (name : ℕ) (program outside : List ℕ) (b : Lent) : Lent → ℕ → Type 0 where
+  none : Stepped name program outside b b 0
   more :
-      {k : Lent} {n : ℕ} (first second : ℕ) → Stepped name program b k n → stepFrom name program (k .ram) (k .bytes) first second .number ≡ 0
-      → Stepped name program b (stepLeaves name program k first second) (n + stepFrom name program (k .ram) (k .bytes) first second .cycles)
+      {k : Lent} {n : ℕ} (first second : ℕ) → Stepped name program outside b k n
+      → stepFrom name program outside (k .ram) (k .bytes) first second .number ≡ 0
+      → Stepped name program outside b (stepLeaves name program outside k first second)
+      (n + stepFrom name program outside (k .ram) (k .bytes) first second .cycles)
 
 -- In none of them a reset is seen, or one of STRT T, STRT CNT, STOP TCNT and MOV T,A carried out, the set being the one that is named.
-abbrev pub UndisturbedCalls : {name : ℕ} {program : List ℕ} {b k : Lent} {n : ℕ} → Set → Stepped name program b k n → Type 0
+abbrev pub UndisturbedCalls : {name : ℕ} {program outside : List ℕ} {b k : Lent} {n : ℕ} → Set → Stepped name program outside b k n → Type 0
 UndisturbedCalls set none = Unit {0}
-UndisturbedCalls {program = program} set (more {k = k} first second h a) =
-    UndisturbedCalls set h × Undisturbed (under set program) (stateOf (k .bytes)) first
+UndisturbedCalls {program = program} {outside = outside} set (more {k = k} first second h a) =
+    UndisturbedCalls set h × Undisturbed (both set program outside) (stateOf (k .bytes)) first
 
 -- The bytes of a state just after STRT T, the counter holding c: T is in byte 6, the divider in byte 7, and 1 in byte 8 says that the counter
 -- counts cycles.

@@ -1,15 +1,17 @@
 // The C interface. include/mcs48.h documents each function for its users.
-use effects::Event;
+use chip::Report;
 use isa::Refusal;
 use isa::Set;
 use listing::Listed;
 use machine::State;
 ghost use mathlib.Core.Path.{_≡_};
 ghost use lib.ListN.{length};
+ghost use Rattle.isa.specs.Choice.{pick};
 ghost use Rattle.isa.specs.Reading.{byteAt, decodedAt, under};
 ghost use Rattle.machine.specs.State.{powerUp};
+ghost use Rattle.chip.specs.Run.{unshown};
 ghost use Rattle.mcs48_c.specs.Bytes.{holding};
-ghost use Rattle.mcs48_c.specs.Calls.{afterRun, afterStep, lineFrom, listedFrom, ramFrom, readFrom, runFrom, spent, stepFrom, totalled, totalsAfter};
+ghost use Rattle.mcs48_c.specs.Calls.{afterRun, afterStep, lineFrom, listedFrom, ramFrom, readFrom, runFrom, shownFrom, spent, stepFrom, totalled, totalsAfter};
 ghost use Rattle.mcs48_c.specs.Naming.{namedAs, setOf};
 ghost use Rattle.mcs48_c.specs.Packed.{packedLine, packedRead, packedStep};
 
@@ -95,32 +97,41 @@ pub extern "C" fn mcs48_list_line(set: u32, program: &[u8], address: usize, line
     }
 }
 
-// What is left of a run's answer once its state is in the lent bytes.
+// What is left of a run's answer once its state is in the lent bytes; `shown` is what its first step showed, if that was asked for.
 pub struct Spent {
     pub number: u8,
     pub used: usize,
     pub cycles: u64,
-    pub event: Event,
+    pub shown: Report,
 }
 
 // A run over lent buffers. The only caller of the chip, and a step from C is a run over its two samples: so the whole step is in one place
 // in the machine code (docs/PERFORMANCE.md).
-fn run_lent(set: u32, program: &[u8], ram: &mut [u8], state: &mut [u8], samples: &[u32]) -> Spent
-    ensures answer { λ r. ⌜ r ≡ spent (runFrom set (now (program .entry)) (now (ram .entry)) (now (state .entry)) (now (samples .entry)) .ran) ⌝ }
-    ensures memory { λ r. ⌜ now (ram .exit) ≡ runFrom set (now (program .entry)) (now (ram .entry)) (now (state .entry)) (now (samples .entry)) .ram ⌝ }
-    ensures left { λ r. ⌜ now (state .exit) ≡ afterRun (now (state .entry)) (runFrom set (now (program .entry)) (now (ram .entry)) (now (state .entry)) (now (samples .entry)) .ran) ⌝ }
+fn run_lent(
+    set: u32,
+    program: &[u8],
+    outside: &[u8],
+    ram: &mut [u8],
+    state: &mut [u8],
+    samples: &[u32],
+    asked: bool,
+) -> Spent
+    ensures answer { λ r. ⌜ r ≡ spent (runFrom set (now (program .entry)) (now (outside .entry)) (now (ram .entry)) (now (state .entry)) (now (samples .entry)) .ran) (pick asked (shownFrom set (now (program .entry)) (now (outside .entry)) (now (ram .entry)) (now (state .entry)) (now (samples .entry))) unshown) ⌝ }
+    ensures memory { λ r. ⌜ now (ram .exit) ≡ runFrom set (now (program .entry)) (now (outside .entry)) (now (ram .entry)) (now (state .entry)) (now (samples .entry)) .ram ⌝ }
+    ensures left { λ r. ⌜ now (state .exit) ≡ afterRun (now (state .entry)) (runFrom set (now (program .entry)) (now (outside .entry)) (now (ram .entry)) (now (state .entry)) (now (samples .entry)) .ran) ⌝ }
 {
     let Named::Known(named) = set_named(set) else {
         return Spent {
             number: isa::number(Refusal::SetUnknown),
             used: 0,
             cycles: 0,
-            event: Event::Quiet,
+            shown: chip::nothing_shown(),
         };
     };
     let start = bytes::state_of(&state[..]);
-    let r = chip::run(named, program, ram, start, samples);
-    let event = r.event;
+    let p = chip::play(named, program, outside, ram, start, samples, asked);
+    let r = p.ran;
+    let shown = p.shown;
     if r.used != 0 {
         bytes::hold(state, r.state);
     }
@@ -128,7 +139,7 @@ fn run_lent(set: u32, program: &[u8], ram: &mut [u8], state: &mut [u8], samples:
         number: r.number,
         used: r.used,
         cycles: r.cycles,
-        event,
+        shown,
     }
 }
 
@@ -147,17 +158,18 @@ fn total(totals: &mut [u64], used: usize, cycles: u64)
 pub extern "C" fn mcs48_run(
     set: u32,
     program: &[u8],
+    outside: &[u8],
     ram: &mut [u8],
     state: &mut [u8],
     samples: &[u32],
     totals: &mut [u64],
 ) -> u64
-    ensures answer { λ r. ⌜ r ≡ runFrom set (now (program .entry)) (now (ram .entry)) (now (state .entry)) (now (samples .entry)) .ran .number ⌝ }
-    ensures memory { λ r. ⌜ now (ram .exit) ≡ runFrom set (now (program .entry)) (now (ram .entry)) (now (state .entry)) (now (samples .entry)) .ram ⌝ }
-    ensures left { λ r. ⌜ now (state .exit) ≡ afterRun (now (state .entry)) (runFrom set (now (program .entry)) (now (ram .entry)) (now (state .entry)) (now (samples .entry)) .ran) ⌝ }
-    ensures sums { λ r. ⌜ now (totals .exit) ≡ totalsAfter (now (totals .entry)) (runFrom set (now (program .entry)) (now (ram .entry)) (now (state .entry)) (now (samples .entry)) .ran) ⌝ }
+    ensures answer { λ r. ⌜ r ≡ runFrom set (now (program .entry)) (now (outside .entry)) (now (ram .entry)) (now (state .entry)) (now (samples .entry)) .ran .number ⌝ }
+    ensures memory { λ r. ⌜ now (ram .exit) ≡ runFrom set (now (program .entry)) (now (outside .entry)) (now (ram .entry)) (now (state .entry)) (now (samples .entry)) .ram ⌝ }
+    ensures left { λ r. ⌜ now (state .exit) ≡ afterRun (now (state .entry)) (runFrom set (now (program .entry)) (now (outside .entry)) (now (ram .entry)) (now (state .entry)) (now (samples .entry)) .ran) ⌝ }
+    ensures sums { λ r. ⌜ now (totals .exit) ≡ totalsAfter (now (totals .entry)) (runFrom set (now (program .entry)) (now (outside .entry)) (now (ram .entry)) (now (state .entry)) (now (samples .entry)) .ran) ⌝ }
 {
-    let r = run_lent(set, program, ram, state, samples);
+    let r = run_lent(set, program, outside, ram, state, samples, false);
     total(totals, r.used, r.cycles);
     r.number as u64
 }
@@ -167,19 +179,21 @@ pub extern "C" fn mcs48_run(
 pub extern "C" fn mcs48_step(
     set: u32,
     program: &[u8],
+    outside: &[u8],
     ram: &mut [u8],
     state: &mut [u8],
     first: u32,
     second: u32,
 ) -> u64
-    ensures answer { λ r. ⌜ r ≡ packedStep (stepFrom set (now (program .entry)) (now (ram .entry)) (now (state .entry)) first second) ⌝ }
-    ensures memory { λ r. ⌜ now (ram .exit) ≡ ramFrom set (now (program .entry)) (now (ram .entry)) (now (state .entry)) first second ⌝ }
-    ensures left { λ r. ⌜ now (state .exit) ≡ afterStep (now (state .entry)) (stepFrom set (now (program .entry)) (now (ram .entry)) (now (state .entry)) first second) ⌝ }
+    ensures answer { λ r. ⌜ r ≡ packedStep (stepFrom set (now (program .entry)) (now (outside .entry)) (now (ram .entry)) (now (state .entry)) first second) ⌝ }
+    ensures memory { λ r. ⌜ now (ram .exit) ≡ ramFrom set (now (program .entry)) (now (outside .entry)) (now (ram .entry)) (now (state .entry)) first second ⌝ }
+    ensures left { λ r. ⌜ now (state .exit) ≡ afterStep (now (state .entry)) (stepFrom set (now (program .entry)) (now (outside .entry)) (now (ram .entry)) (now (state .entry)) first second) ⌝ }
 {
     let samples = [first, second];
-    let r = run_lent(set, program, ram, state, &samples);
-    let event = r.event;
+    let r = run_lent(set, program, outside, ram, state, &samples, true);
+    let shown = r.shown;
+    let event = shown.event;
     let cycles = (r.cycles % 256) as u8;
     let used = (r.used % 256) as u8;
-    packing::pack_step(r.number, cycles, used, event)
+    packing::pack_step(r.number, cycles, used, shown.outside, event)
 }

@@ -50,9 +50,11 @@ fn pack_event(number: u8, cycles: u8, event: Event) -> u64
     }
 }
 
-// A step's answer, with the samples used in byte 6.
-pub fn pack_step(number: u8, cycles: u8, used: u8, event: Event) -> u64
-    ensures { λ r. ⌜ r ≡ packedUsed number cycles used event ⌝ }
+// A step's answer, with how many bytes came from outside in byte 5 and the samples used in byte 6.
+pub fn pack_step(number: u8, cycles: u8, used: u8, outside: u8, event: Event) -> u64
+    ensures { λ r. ⌜ r ≡ packedUsed number cycles used outside event ⌝ }
 {
-    pack_event(number, cycles, event) + used as u64 * 0x1_0000_0000_0000
+    pack_event(number, cycles, event)
+        + outside as u64 * 0x100_0000_0000
+        + used as u64 * 0x1_0000_0000_0000
 }

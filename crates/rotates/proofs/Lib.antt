@@ -1,3 +1,4 @@
 pub mod Example
 pub mod Filling
+pub mod Seen
 pub mod Stepping

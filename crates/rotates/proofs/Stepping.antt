@@ -13,20 +13,20 @@ use lib.ListN.{length}
 use borrow.Author.Tests.{le-ltb}
 use Rattle.isa.specs.Choice.{pick}
 use Rattle.isa.specs.Numbers.{given}
-use Rattle.isa.specs.Reading.{Program, under, sized, nextPc, lacks, byteAt, instructionAt}
+use Rattle.isa.specs.Reading.{sized, nextPc, lacks, byteAt, instructionAt}
 use Rattle.isa.specs.Sheet.{kindOf, entryOf, instructionOf}
 use Rattle.isa.specs.declared.Set.{Set}
 use Rattle.isa.specs.declared.Set.the-variants.{Intel}
 use Rattle.isa.proofs.Sets.{shared}
 use Rattle.machine.specs.Counting.{counted}
 use Rattle.machine.specs.Pins.{t1Pin, isHigh}
+use Rattle.machine.specs.Rom.{Roms, seenBy}
 use Rattle.machine.specs.State.{countOf, runningAt}
 use Rattle.machine.specs.declared.Count.{Count}
 use Rattle.machine.specs.declared.Counting.the-variants.{Stopped}
 use Rattle.machine.specs.declared.Mode.{Mode}
 use Rattle.machine.specs.declared.Mode.the-variants.{Running}
 use Rattle.machine.specs.declared.State.{State}
-use Rattle.writer.specs.Standing.{StandsAt}
 use Rattle.accumulator.specs.Rotates.{Rotate, Rl, Rlc, Rr, Rrc, Swap, Nop, codeOf, turned, rotated, Law, Holds}
 use Rattle.accumulator.proofs.Rotates.{one-each, cycles-bytes}
 use Rattle.effects.specs.Effect.{Nothing, written}
@@ -34,16 +34,19 @@ use Rattle.effects.specs.Moves.{quiet}
 use Rattle.effects.specs.declared.Event.the-variants.{Quiet}
 use Rattle.execute.specs.Execute.{executed}
 use Rattle.chip.specs.History.{Steps, more}
+use Rattle.chip.specs.Outside.{fromOutside}
 use Rattle.chip.specs.Refusals.{Fetches}
 use Rattle.chip.specs.Run.{Progress, begun, gone}
-use Rattle.chip.specs.Step.{Plan, accepted, done, carried, course, remembered, ticked, settled, planBy, planOf}
+use Rattle.chip.specs.Step.{Plan, accepted, done, carried, remembered, ticked, settled, planBy, planOf}
+use Rattle.chip.proofs.Exactly.{comes-to}
 use Rattle.chip.proofs.Fetches.{reads-one}
-use Rattle.rotates.specs.Strings.{Fetching, none, step, levels, modePast, moved, countedOver, over, Replaced}
+use Rattle.rotates.specs.Strings.{Fetching, none, step, samplesOf, levels, SeenAt, modePast, moved, countedOver, over, Replaced}
 
 -- ---- one step
--- What the step over a rotate does: A and C as the string says, the next PC, the machine runs, and one cycle is counted.
-abbrev pub turnedStep : Rotate → State → ℕ → Plan
-turnedStep r s first =
+-- What the step over a rotate does: A and C as the string says, the next PC, the machine runs, and one cycle is counted. Its byte comes from
+-- outside or not.
+abbrev pub turnedStep : ℕ → Rotate → State → ℕ → Plan
+turnedStep outside r s first =
     record {
       number = 0;
       state = moved (turned r s) (nextPc (s .pc)) Running (counted (s .counting) (countOf s) (isHigh t1Pin first) (s .interrupts .tcnti));
@@ -51,6 +54,7 @@ turnedStep r s first =
       write = Nothing;
       cycles = 1;
       used = 1;
+      outside = outside;
     }
 
 -- Both sets have the same entry for its code. By the step's definitions the instruction that the sheet has there does what the string says, and
@@ -79,21 +83,21 @@ meant Swap =
 meant Nop =
     record { either = λ set. shared set 0x00 refl; does = λ p m s b f g. refl; apart = λ s pc m c. refl; counting = λ s. refl; interrupts = λ s. refl }
 
-module _ (program : Program) (ram : List ℕ) (s : State) (first second : ℕ) (r : Rotate) (f : Fetches program ram s first second)
-    (l : lacks (program .bytes) (s .pc) ≡ false) (e : byteAt (program .bytes) (s .pc) ≡ codeOf r) where
-  reads : instructionAt program (s .pc) ≡ given (sized (instructionOf Intel (codeOf r) 0) 1)
-  reads = reads-one program (s .pc) (codeOf r) _ l e (λ set. (one-each set r .0, rw (meant r .either set)))
+module _ (roms : Roms) (ram : List ℕ) (s : State) (first second : ℕ) (r : Rotate) (f : Fetches roms ram s first second)
+    (l : lacks (seenBy roms first .bytes) (s .pc) ≡ false) (e : byteAt (seenBy roms first .bytes) (s .pc) ≡ codeOf r) where
+  reads : instructionAt (seenBy roms first) (s .pc) ≡ given (sized (instructionOf Intel (codeOf r) 0) 1)
+  reads = reads-one (seenBy roms first) (s .pc) (codeOf r) _ l e (λ set. (one-each set r .0, rw (meant r .either set)))
 
-  comes-to :
-      course program ram s first second
-      ≡ done (executed (instructionOf Intel (codeOf r) 0) (program .bytes) ram (runningAt s (nextPc (s .pc))) (s .pc) first second) 1 s
-  unfolding course carried pick
-  comes-to = rw (f .admitted, f .no-reset, f .no-wait, f .no-external, f .no-timer, reads, e, one-each (program .set) r .1)
+  carries :
+      carried (seenBy roms first) ram s first second
+      ≡ done (executed (instructionOf Intel (codeOf r) 0) (seenBy roms first .bytes) ram (runningAt s (nextPc (s .pc))) (s .pc) first second) 1 s
+  unfolding carried pick
+  carries = rw (reads, e, one-each (roms .set) r .1)
 
-  pub step-over : planOf program ram s first second ≡ turnedStep r s first
+  pub step-over : planOf roms ram s first second ≡ turnedStep (fromOutside roms first s) r s first
   unfolding planBy done accepted settled ticked pick
   step-over =
-      rw (comes-to, meant r .does, meant r .apart s (nextPc (s .pc)) Running (countOf s), meant r .counting s, meant r .interrupts s)
+      rw (comes-to roms ram s first second f, carries, meant r .does, meant r .apart s (nextPc (s .pc)) Running (countOf s), meant r .counting s, meant r .interrupts s)
 
 -- ---- the steps over a string
 rotated-apart : (rs : List Rotate) (s : State) (pc : ℕ) (m : Mode) (c : Count) → rotated rs (moved s pc m c) ≡ moved (rotated rs s) pc m c
@@ -111,30 +115,30 @@ over-none : (k : Progress) → k ≡ over [] k []
 over-none k = simp (add-zero, append-nil)
 
 over-more :
-    (r : Rotate) (rs : List Rotate) (k : Progress) (first : ℕ) (rest : List Bool)
-    → over rs (gone k (turnedStep r (k .state) first)) rest ≡ over (r ∷ rs) k (isHigh t1Pin first ∷ rest)
+    (outside : ℕ) (r : Rotate) (rs : List Rotate) (k : Progress) (first : ℕ) (rest : List Bool)
+    → over rs (gone k (turnedStep outside r (k .state) first)) rest ≡ over (r ∷ rs) k (isHigh t1Pin first ∷ rest)
 unfolding written
-over-more r rs k first rest =
+over-more outside r rs k first rest =
     rw (rotated-apart rs (turned r (k .state)) (nextPc (k .state .pc)) Running (counted (k .state .counting) (countOf (k .state)) (isHigh t1Pin first) (k .state .interrupts .tcnti)), meant r .counting (k .state), meant r .interrupts (k .state), past-running (length rs), one-more (k .used) (length rs), one-more (k .cycles) (length rs), append-assoc)
 
 -- The steps over a string lead where `over` says: all of it.
 pub string-steps :
-    {program : Program} (rs : List Rotate) {k m : Progress} → StandsAt (program .bytes) (k .state .pc) (map codeOf rs)
-    → (g : Fetching program k (length rs) m) → m ≡ over rs k (levels g)
-string-steps [] {k} w none = over-none k
-string-steps {program} (r ∷ rs) {k} w (step first second f g) =
-    let one = step-over program (k .ram) (k .state) first second r f (w .0) (w .1) in
-    string-steps rs (subst (λ (p : Plan). StandsAt (program .bytes) (p .state .pc) (map codeOf rs)) (sym one) (w .2)) g
-    ∙ ap (λ (p : Plan). over rs (gone k p) (levels g)) one ∙ over-more r rs k first (levels g)
+    {roms : Roms} (rs : List Rotate) {k m : Progress} (g : Fetching roms k (length rs) m) → SeenAt roms (k .state .pc) (samplesOf g) (map codeOf rs)
+    → m ≡ over rs k (levels g)
+string-steps [] {k} none w = over-none k
+string-steps {roms} (r ∷ rs) {k} (step first second f g) w =
+    let one = step-over roms (k .ram) (k .state) first second r f (w .0) (w .1) in
+    string-steps rs g (subst (λ (p : Plan). SeenAt roms (p .state .pc) (samplesOf g) (map codeOf rs)) (sym one) (w .2))
+    ∙ ap (λ (p : Plan). over rs (gone k p) (levels g)) one ∙ over-more (fromOutside roms first (k .state)) r rs k first (levels g)
 
 -- None of them is refused: they go on a history of accepted steps, so a run goes through them (chip's `over-through`).
 pub string-accepted :
-    {program : Program} {ram : List ℕ} {s : State} (rs : List Rotate) {k m : Progress} → StandsAt (program .bytes) (k .state .pc) (map codeOf rs)
-    → Fetching program k (length rs) m → Steps program ram s k → Steps program ram s m
-string-accepted [] w none h = h
-string-accepted {program} (r ∷ rs) {k} w (step first second f g) h =
-    let one = step-over program (k .ram) (k .state) first second r f (w .0) (w .1) in
-    string-accepted rs (subst (λ (p : Plan). StandsAt (program .bytes) (p .state .pc) (map codeOf rs)) (sym one) (w .2)) g
+    {roms : Roms} {ram : List ℕ} {s : State} (rs : List Rotate) {k m : Progress} (g : Fetching roms k (length rs) m)
+    → SeenAt roms (k .state .pc) (samplesOf g) (map codeOf rs) → Steps roms ram s k → Steps roms ram s m
+string-accepted [] none w h = h
+string-accepted {roms} (r ∷ rs) {k} (step first second f g) w h =
+    let one = step-over roms (k .ram) (k .state) first second r f (w .0) (w .1) in
+    string-accepted rs g (subst (λ (p : Plan). SeenAt roms (p .state .pc) (samplesOf g) (map codeOf rs)) (sym one) (w .2))
     (more first second h (ap (λ (p : Plan). p .number) one))
 
 -- ---- a counter that stands still
@@ -172,21 +176,21 @@ same-mode (suc i) zero m (inr h) = absurd (omega (arith, h .1))
 same-mode (suc i) (suc j) m h = refl
 
 module _
-    {l : Law} (holds : Holds l) {program : Program} {patched ram : List ℕ} {s : State} {x y : Progress} (a-byte : s .a < 256) (psw-byte : s .psw < 256)
-    (stands : StandsAt (program .bytes) (s .pc) (map codeOf (l .string))) (instead-stands : StandsAt patched (s .pc) (map codeOf (l .instead)))
-    (g : Fetching program (begun ram s) (length (l .string)) x) (h : Fetching (under (program .set) patched) (begun ram s) (length (l .instead)) y) where
+    {l : Law} (holds : Holds l) {roms patched : Roms} {ram : List ℕ} {s : State} {x y : Progress} (a-byte : s .a < 256) (psw-byte : s .psw < 256)
+    (g : Fetching roms (begun ram s) (length (l .string)) x) (h : Fetching patched (begun ram s) (length (l .instead)) y)
+    (seen : SeenAt roms (s .pc) (samplesOf g) (map codeOf (l .string))) (instead-seen : SeenAt patched (s .pc) (samplesOf h) (map codeOf (l .instead))) where
   pub replaced : Replaced l ram s x y (levels g) (levels h)
   replaced =
-      let p = string-steps (l .string) stands g in
-      let q = string-steps (l .instead) instead-stands h in
+      let p = string-steps (l .string) g seen in
+      let q = string-steps (l .instead) h instead-seen in
       let e = holds .same s a-byte psw-byte in
       record {
         leaves = p;
         instead-leaves = q;
         a = rw (p, q, e);
         c = rw (p, q, e);
-        cycles = rw (p, zero-add) (sym (cycles-bytes (program .set) (l .string)) ∙ holds .cycles (program .set));
-        instead-cycles = rw (q, zero-add) (sym (cycles-bytes (program .set) (l .instead)) ∙ holds .instead-cycles (program .set));
+        cycles = rw (p, zero-add) (sym (cycles-bytes (roms .set) (l .string)) ∙ holds .cycles (roms .set));
+        instead-cycles = rw (q, zero-add) (sym (cycles-bytes (patched .set) (l .instead)) ∙ holds .instead-cycles (patched .set));
         state = rw (p, q, e);
         mode = λ h. rw (p, q) (same-mode (length (l .string)) (length (l .instead)) (s .mode) h);
         memory = rw (p, q);

@@ -1,8 +1,8 @@
--- Four RL, and SWAP instead of them, in a program: from address 010, A being 12.
+-- Four RL, and SWAP instead of them, in a program in the chip, EA low: from address 010, A being 12.
 -- Assumes nothing.
 use Prim.Native.Nat.{ℕ, zero, suc}
 use mathlib.Core.List.{List, [], _∷_}
-use Rattle.isa.specs.Reading.{Program}
+use Rattle.machine.specs.Rom.{Roms}
 use Rattle.machine.specs.State.{powerUp, withCore}
 use Rattle.machine.specs.declared.State.{State}
 use Rattle.chip.specs.Cases.{Case, holding, blank, idle, times, a, pc, number}
@@ -21,7 +21,7 @@ oneSwap = holding 1024 0x010 (0x47 ∷ [])
 abbrev pub filledSwap : List ℕ
 filledSwap = holding 1024 0x010 (0x47 ∷ 0x00 ∷ 0x00 ∷ 0x00 ∷ [])
 
--- A run over n samples, all pins high: the number, A, PC and the cycles after it.
+-- A run over n samples, all pins high but EA: the number, A, PC and the cycles after it.
 abbrev pub run : List ℕ → ℕ → List ℕ → Case
 run program n want =
     record {
@@ -41,9 +41,9 @@ runs =
     []
 
 -- After n steps.
-abbrev pub stepped : Program → ℕ → Progress → Progress
-stepped program zero k = k
-stepped program (suc n) k = stepped program n (after program k idle idle)
+abbrev pub stepped : Roms → ℕ → Progress → Progress
+stepped roms zero k = k
+stepped roms (suc n) k = stepped roms n (after roms k idle idle)
 
-abbrev pub reached : Program → ℕ → Progress
-reached program n = stepped program n (begun blank start)
+abbrev pub reached : Roms → ℕ → Progress
+reached roms n = stepped roms n (begun blank start)

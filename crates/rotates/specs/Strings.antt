@@ -1,15 +1,16 @@
--- Document 02, item 6, of the chip: the steps over a string of rotates that stands in a program.
+-- Document 02, item 6, of the chip: the steps over a string of rotates, in the chip's program, in the second one, or in both (item 7).
 -- Assumes nothing.
 use Prim.Native.Nat.{ℕ, zero, suc, _+_, _≤_}
-use mathlib.Core.Bool.{Bool}
+use mathlib.Core.Bool.{Bool, false}
 use mathlib.Core.List.{List, [], _∷_, _++_, map}
 use mathlib.Core.Logic.{_⊎_}
 use mathlib.Core.Path.{_≡_}
 use lib.ListN.{length, replicate}
-use Rattle.isa.specs.Reading.{Program, under, nextPc}
+use Rattle.isa.specs.Reading.{nextPc, lacks, byteAt}
 use Rattle.machine.specs.Counting.{counted}
 use Rattle.machine.specs.Pins.{t1Pin, isHigh}
 use Rattle.machine.specs.Psw.{bitC}
+use Rattle.machine.specs.Rom.{Roms, seenBy}
 use Rattle.machine.specs.State.{countOf, withPc, withMode, withCount}
 use Rattle.machine.specs.declared.Count.{Count}
 use Rattle.machine.specs.declared.Counting.{Counting}
@@ -23,24 +24,31 @@ use Rattle.chip.specs.Refusals.{Fetches}
 use Rattle.chip.specs.Run.{Progress, begun}
 
 -- n steps from k to m, one after the other. Each comes to fetch: no reset, no wait and no interrupt call comes between.
-pub data Fetching (program : Program) : Progress → ℕ → Progress → Type 0 where
-  none : {k : Progress} → Fetching program k 0 k
+pub data Fetching (roms : Roms) : Progress → ℕ → Progress → Type 0 where
+  none : {k : Progress} → Fetching roms k 0 k
   step :
-      {k m : Progress} {n : ℕ} (first second : ℕ) → Fetches program (k .ram) (k .state) first second
-      → Fetching program (after program k first second) n m → Fetching program k (suc n) m
+      {k m : Progress} {n : ℕ} (first second : ℕ) → Fetches roms (k .ram) (k .state) first second
+      → Fetching roms (after roms k first second) n m → Fetching roms k (suc n) m
 
 -- The two samples of each.
 pub record Samples : Type 0 where
   pub first : ℕ
   pub second : ℕ
 
-abbrev pub samplesOf : {program : Program} {k m : Progress} {n : ℕ} → Fetching program k n m → List Samples
+abbrev pub samplesOf : {roms : Roms} {k m : Progress} {n : ℕ} → Fetching roms k n m → List Samples
 samplesOf none = []
 samplesOf (step first second f g) = record { first = first; second = second } ∷ samplesOf g
 
 -- T1's level in the first cycle of each. (A rotate has no second.)
-abbrev pub levels : {program : Program} {k m : Progress} {n : ℕ} → Fetching program k n m → List Bool
+abbrev pub levels : {roms : Roms} {k m : Progress} {n : ℕ} → Fetching roms k n m → List Bool
 levels g = map (λ x. isHigh t1Pin (x .first)) (samplesOf g)
+
+-- Steps with these samples, one after the other from the address a, see these bytes: each sees its own, wherever EA takes it from.
+abbrev pub SeenAt : Roms → ℕ → List Samples → List ℕ → Type 0
+SeenAt roms a [] bytes = Unit {0}
+SeenAt roms a (x ∷ xs) [] = Unit {0}
+SeenAt roms a (x ∷ xs) (b ∷ bs) =
+    (lacks (seenBy roms (x .first) .bytes) a ≡ false) × (byteAt (seenBy roms (x .first) .bytes) a ≡ b) × SeenAt roms (nextPc a) xs bs
 
 -- PC past n bytes.
 abbrev pub pcPast : ℕ → ℕ → ℕ
@@ -91,7 +99,13 @@ pub record Replaced (l : Law) (ram : List ℕ) (s : State) (x y : Progress) (t1 
   pub mode : (s .mode ≡ Running) ⊎ ((1 ≤ length (l .string)) × (1 ≤ length (l .instead))) → x .state .mode ≡ y .state .mode
   pub memory : x .ram ≡ y .ram
 
--- In another program for the same set i steps go the way of g: with the same samples, and to the same end.
-pub record SameWay {program : Program} {k m : Progress} {n : ℕ} (g : Fetching program k n m) (patched : List ℕ) (i : ℕ) : Type 0 where
-  pub way : Fetching (under (program .set) patched) k i m
+-- Two memories for the same set, and each as long: the program in the chip, and the second one.
+pub record AsLong (roms patched : Roms) : Type 0 where
+  pub set : patched .set ≡ roms .set
+  pub inside : length (patched .inside) ≡ length (roms .inside)
+  pub outside : length (patched .outside) ≡ length (roms .outside)
+
+-- In another memory i steps go the way of g: with the same samples, and to the same end.
+pub record SameWay {roms : Roms} {k m : Progress} {n : ℕ} (g : Fetching roms k n m) (patched : Roms) (i : ℕ) : Type 0 where
+  pub way : Fetching patched k i m
   pub samples : samplesOf way ≡ samplesOf g

@@ -3,8 +3,8 @@
 use borrow.Author.Needs.{needs}
 use borrow.Author.Tests.{eq-eqb, ne-eqb}
 use Rattle.isa.specs.Choice.{pick}
-use Rattle.chip.specs.Step.{waits, ticked, settled, planBy}
-use Rattle.chip.proofs.Lasting.{plan-writes, some-cycles, waits-only}
+use Rattle.chip.specs.Step.{planBy}
+use Rattle.chip.proofs.Lasting.{plan-writes, moved-waits, some-cycles, waits-only}
 use Rattle.chip.proofs.do_step.Statement.{statement}
 use Rattle.chip.proofs.do_step.Tie as tie
 
@@ -15,11 +15,10 @@ refused c =
     (rw (e .0, ne-eqb _ _ (rw (e .0) at (c .if1 .taken))), rw (plan-writes _ _ _ _ _) (e .1))
 
 waited : tie.Need-returns-2
-unfolding planBy waits settled ticked pick
 waited c =
     let e = c .before .before .before .before .before .before .course-of .ensures in
     let w = waits-only _ _ _ _ _ (rw (e .0) at (c .if2 .taken)) in
-    (rw (e .0, w), rw (plan-writes _ _ _ _ _) (e .1))
+    (rw (e .0) (moved-waits _ _ _ _ w), rw (plan-writes _ _ _ _ _) (e .1))
 
 -- A course that is no wait has a cycle to be counted.
 settle-requires : tie.Need-settle-requires

@@ -8,105 +8,102 @@ use mathlib.Core.Path.{_≡_, refl, sym, ap, _∙_}
 use native.Mathlib.Omega.{arith}
 use lib.ListN.{length, drop}
 use borrow.Author.Needs.{needs}
-use Rattle.isa.specs.Reading.{Program, under}
+use Rattle.machine.specs.Rom.{Roms, both}
 use Rattle.machine.specs.declared.State.{State}
 use Rattle.effects.specs.declared.Event.{Event}
-use Rattle.effects.specs.declared.Event.the-variants.{Quiet}
 use Rattle.chip.specs.Admission.{lentOf}
-use Rattle.chip.specs.Run.{Progress, Ended, begun, lastFrom, runOver}
+use Rattle.chip.specs.Run.{Progress, Ended, begun, runOver}
 use Rattle.chip.proofs.Laws.{still-stands}
-use Rattle.chip.proofs.Runs.{last-more, run-short, spent, went, halted}
+use Rattle.chip.proofs.Runs.{next, run-short, spent, went, halted}
 use Rattle.chip.proofs.run_on.Statement.{statement}
 use Rattle.chip.proofs.run_on.Tie as tie
 
--- How far the run has come: the events of the steps so far are not in the code, which keeps the last.
-record Going (program : Program) (samples ram₀ : List ℕ) (state₀ : State) (ram : List ℕ) (state : State) (event : Event) (i cycles : ℕ) : Type 0 where
+-- How far the run has come; the events of the steps so far are not in the code.
+record Going (roms : Roms) (samples ram₀ : List ℕ) (state₀ : State) (ram : List ℕ) (state : State) (i cycles : ℕ) : Type 0 where
   same-length : length ram ≡ length ram₀
   within : i ≤ length samples
   fewer : cycles ≤ i
-  lent : lentOf program ram state ≡ 0
+  lent : lentOf roms ram state ≡ 0
   events : List Event
-  last : event ≡ lastFrom Quiet events
   same :
-      runOver program (drop i samples) (record { ram = ram; state = state; used = i; cycles = cycles; events = events })
-      ≡ runOver program samples (begun ram₀ state₀)
+      runOver roms (drop i samples) (record { ram = ram; state = state; used = i; cycles = cycles; events = events })
+      ≡ runOver roms samples (begun ram₀ state₀)
 
 abbrev Inv-loop : tie.InvT-loop
-Inv-loop set table program ram₀ samples state₀ event₀ i₀ cycles₀ ram state event i cycles =
-    Going (under set program) samples ram₀ state₀ ram state event i cycles
+Inv-loop set table program outside ram₀ samples state₀ i₀ cycles₀ ram state i cycles =
+    Going (both set program outside) samples ram₀ state₀ ram state i cycles
 
 abbrev μ-loop : tie.MeasureT-loop
-μ-loop set table program ram₀ samples state₀ event₀ i₀ cycles₀ ram state event i cycles = length samples - i
+μ-loop set table program outside ram₀ samples state₀ i₀ cycles₀ ram state i cycles = length samples - i
 
 loop-holds : tie.Need-loop-holds Inv-loop μ-loop
 loop-holds c =
-    record { same-length = refl; within = omega arith; fewer = omega arith; lent = c .before .before .before .pre .1; events = []; last = refl; same = refl }
+    record { same-length = refl; within = omega arith; fewer = omega arith; lent = c .before .before .before .before .pre .1; events = []; same = refl }
 
 do-step-requires : tie.Need-do-step-requires Inv-loop μ-loop
-do-step-requires c κs = (c .before .before .before .before .before .before .before .before .pre .0, c .before .before .before .before .loop .inv .lent)
+do-step-requires c κs = (c .before .before .before .before .before .before .before .before .before .pre .0, c .before .before .before .before .loop .inv .lent)
 
 -- At the branch that was not taken: the step used one sample or two, and no more cycles.
 spent-at :
     (c : tie.Else1 Inv-loop μ-loop)
     → let r = c .before .before .before .before .before .do-step .result in (1 ≤ r .used) × (r .used ≤ 2) × (r .cycles ≤ r .used)
 spent-at c =
-    let a = c .before .before .before .before .before .before .before .before .before .before .before .before .before .before .args in
+    let a = c .before .before .before .before .before .before .before .before .before .before .before .before .before .before .before .args in
     let l = c .before .before .before .before .before .before .before .before .before .before .loop in
     let d = c .before .before .before .before .before .do-step in
-    spent (under (a .set) (now (a .program))) (now (a .samples)) (l .i)
-    (record { ram = l .ram; state = l .state; used = l .i; cycles = l .cycles; events = l .inv .events }) (d .result) (d .last .1 .1 .1 .0)
+    spent (both (a .set) (now (a .program)) (now (a .outside))) (now (a .samples)) (l .i)
+    (record { ram = l .ram; state = l .state; used = l .i; cycles = l .cycles; events = l .inv .events }) (d .result) (d .last .1 .1 .1 .1 .0)
     (d .ensures .0) (d .ensures .1) (c .if1 .left)
 
 refused : tie.Need-returns Inv-loop μ-loop
 refused c =
-    let a = c .before .before .before .before .before .before .before .before .before .before .before .before .before .before .args in
+    let a = c .before .before .before .before .before .before .before .before .before .before .before .before .before .before .before .args in
     let l = c .before .before .before .before .before .before .before .before .before .before .loop in
     let d = c .before .before .before .before .before .do-step in
     let e =
-    halted (under (a .set) (now (a .program))) (now (a .samples)) (l .i)
-    (record { ram = l .ram; state = l .state; used = l .i; cycles = l .cycles; events = l .inv .events }) (d .result) (d .last .1 .1 .1 .0)
+    halted (both (a .set) (now (a .program)) (now (a .outside))) (now (a .samples)) (l .i)
+    (record { ram = l .ram; state = l .state; used = l .i; cycles = l .cycles; events = l .inv .events }) (d .result) (d .last .1 .1 .1 .1 .0)
     (d .ensures .0) (d .ensures .1) (c .before .before .before .before .before .before .before .before .before .loop-test .taken) (c .if1 .taken)
     in
-    (rw (l .inv .last) (ap (λ (r : Ended). r .ran) (sym e ∙ l .inv .same)), ap (λ (r : Ended). r .ram) (sym e ∙ l .inv .same))
+    (ap (λ (r : Ended). r .ran) (sym e ∙ l .inv .same), ap (λ (r : Ended). r .ram) (sym e ∙ l .inv .same))
 
 add-i : tie.Need-add-i Inv-loop μ-loop
-add-i c = omega (arith, spent-at (c .before) .1, c .before .before .before .before .before .before .before .before .before .before .loop-test .taken, c .before .before .before .before .before .before .before .before .before .before .before .before .before .before .before .good .1 .1 .1 .1 .1)
+add-i c = omega (arith, spent-at (c .before) .1, c .before .before .before .before .before .before .before .before .before .before .loop-test .taken, c .before .before .before .before .before .before .before .before .before .before .before .before .before .before .before .before .good .1 .1 .1 .1 .1 .1)
 
 add-cycles : tie.Need-add-cycles Inv-loop μ-loop
 add-cycles c =
     let l = c .before .before .before .before .before .before .before .before .before .before .before .before .loop in
     let s = spent-at (c .before .before) in
-    omega (arith, s .1, s .2, l .inv .fewer, c .before .before .before .before .before .before .before .before .before .before .before .loop-test .taken, c .before .before .before .before .before .before .before .before .before .before .before .before .before .before .before .before .good .1 .1 .1 .1 .1)
+    omega (arith, s .1, s .2, l .inv .fewer, c .before .before .before .before .before .before .before .before .before .before .before .loop-test .taken, c .before .before .before .before .before .before .before .before .before .before .before .before .before .before .before .before .before .good .1 .1 .1 .1 .1 .1)
 
 loop-less : tie.Need-loop-less Inv-loop μ-loop
 loop-less c = omega (arith, spent-at (c .before .before) .0)
 
 loop-again : tie.Need-loop-again Inv-loop μ-loop
 loop-again c =
-    let a = c .before .before .before .before .before .before .before .before .before .before .before .before .before .before .before .before .args in
+    let a = c .before .before .before .before .before .before .before .before .before .before .before .before .before .before .before .before .before .args in
     let l = c .before .before .before .before .before .before .before .before .before .before .before .before .loop in
     let d = c .before .before .before .before .before .before .before .do-step in
     let m : Progress = record { ram = l .ram; state = l .state; used = l .i; cycles = l .cycles; events = l .inv .events } in
     let goes = c .before .before .before .before .before .before .before .before .before .before .before .loop-test .taken in
     record {
-      same-length = d .kept .1 .1 .1 .0 ∙ l .inv .same-length;
+      same-length = d .kept .1 .1 .1 .1 .0 ∙ l .inv .same-length;
       within = omega (arith, spent-at (c .before .before) .1, goes);
       fewer = omega (arith, spent-at (c .before .before) .2, l .inv .fewer);
-      lent = still-stands (under (a .set) (now (a .program))) (l .ram) (l .state) _ _ (d .result) (d .last .1 .1 .1 .0) (d .ensures .0) (d .ensures .1) (c .before .before .if1 .left) (l .inv .lent);
-      events = l .inv .events ++ (d .result .event ∷ []);
-      last = sym (last-more Quiet (d .result .event) (l .inv .events));
-      same = went (under (a .set) (now (a .program))) (now (a .samples)) (l .i) m (d .result) (d .last .1 .1 .1 .0) (d .ensures .0) (d .ensures .1) goes (c .before .before .if1 .left) ∙ l .inv .same;
+      lent = still-stands (both (a .set) (now (a .program)) (now (a .outside))) (l .ram) (l .state) _ _ (d .result) (d .last .1 .1 .1 .1 .0) (d .ensures .0) (d .ensures .1) (c .before .before .if1 .left) (l .inv .lent);
+      events = l .inv .events ++ (next (both (a .set) (now (a .program)) (now (a .outside))) (now (a .samples)) (l .i) m .event ∷ []);
+      same = went (both (a .set) (now (a .program)) (now (a .outside))) (now (a .samples)) (l .i) m (d .result) (d .last .1 .1 .1 .1 .0) (d .ensures .0) (d .ensures .1) goes (c .before .before .if1 .left) ∙ l .inv .same;
     }
 
 run-out : tie.Need-returns-2 Inv-loop μ-loop
 run-out c =
-    let a = c .before .before .before .before .before .args in
+    let a = c .before .before .before .before .before .before .args in
     let l = c .before .loop in
     let e =
-    run-short (under (a .set) (now (a .program))) (now (a .samples)) (l .i)
+    run-short (both (a .set) (now (a .program)) (now (a .outside))) (now (a .samples)) (l .i)
     (record { ram = l .ram; state = l .state; used = l .i; cycles = l .cycles; events = l .inv .events }) (c .loop-test .left)
     in
-    (rw (l .inv .last) (ap (λ (r : Ended). r .ran) (sym e ∙ l .inv .same)), ap (λ (r : Ended). r .ram) (sym e ∙ l .inv .same))
+    (ap (λ (r : Ended). r .ran) (sym e ∙ l .inv .same), ap (λ (r : Ended). r .ram) (sym e ∙ l .inv .same))
 
 pub run-on-spec : {M : Type 1} → statement M
 run-on-spec =

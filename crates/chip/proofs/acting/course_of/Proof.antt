@@ -5,7 +5,7 @@ use denote.Ref.{now}
 use lib.ListN.{length}
 use mathlib.Core.Path.{_≡_}
 use borrow.Author.Needs.{needs}
-use Rattle.isa.specs.Reading.{under}
+use Rattle.machine.specs.Rom.{both}
 use Rattle.effects.specs.Effect.{written}
 use Rattle.effects.specs.Moves.{quiet}
 use Rattle.chip.specs.Step.{declined, accepted, resetState, waits, called, courseBy, course}
@@ -16,13 +16,13 @@ use Rattle.chip.proofs.acting.course_of.Tie as tie
 -- 1, 2 and 3 are not given.
 turned :
     (c : tie.After-turn-of)
-    → let a = c .before .before .before .args in
-    course (under (a .set) (now (a .program))) (now (a .ram)) (a .s) (a .first) (a .second)
-    ≡ courseBy (c .turn-of .result) (under (a .set) (now (a .program))) (now (a .ram)) (a .s) (a .first) (a .second)
-turned c = let a = c .before .before .before .args in c .turn-of .ensures (under (a .set) (now (a .program))) (now (a .ram)) (c .before .before .before .pre .1)
+    → let a = c .before .before .before .before .args in
+    course (both (a .set) (now (a .program)) (now (a .outside))) (now (a .ram)) (a .s) (a .first) (a .second)
+    ≡ courseBy (c .turn-of .result) (both (a .set) (now (a .program)) (now (a .outside))) (now (a .ram)) (a .s) (a .first) (a .second)
+turned c = let a = c .before .before .before .before .args in c .turn-of .ensures (both (a .set) (now (a .program)) (now (a .outside))) (now (a .ram)) (c .before .before .before .before .pre .1)
 
-room : (c : tie.After-turn-of) → 64 ≤ length (now (c .before .before .before .args .ram))
-room c = let a = c .before .before .before .args in roomy (under (a .set) (now (a .program))) (now (a .ram)) (a .s) (a .first) (a .second) (c .before .before .before .pre .1)
+room : (c : tie.After-turn-of) → 64 ≤ length (now (c .before .before .before .before .args .ram))
+room c = let a = c .before .before .before .before .args in roomy (both (a .set) (now (a .program)) (now (a .outside))) (now (a .ram)) (a .s) (a .first) (a .second) (c .before .before .before .before .pre .1)
 
 refuses : tie.Need-returns
 unfolding declined written
@@ -36,7 +36,7 @@ unfolding accepted written
 resets c =
     let t = turned (c .before .before .before .before .before) in
     let told = c .before .before .before .enum-told2 .given .1 in
-    (rw (t, told) (c .accept .ensures (quiet (resetState (c .before .before .before .before .before .before .before .before .args .s))) (rw (c .before .quiet-effect .ensures, c .before .before .reset .ensures))), rw (t, told))
+    (rw (t, told) (c .accept .ensures (quiet (resetState (c .before .before .before .before .before .before .before .before .before .args .s))) (rw (c .before .quiet-effect .ensures, c .before .before .reset .ensures))), rw (t, told))
 
 waited : tie.Need-returns-3
 unfolding waits written
@@ -51,7 +51,7 @@ calls-external c =
     let t = turned (c .before .before .before .before .before .before .before) in
     let told = c .before .before .before .before .before .enum-told4 .given .1 in
     let e = c .before .before .before .call .ensures in
-    (rw (t, told) (c .accept2 .ensures (called (c .before .before .before .before .before .before .before .before .before .before .args .s) 3) (e .0)), rw (t, told) (e .1))
+    (rw (t, told) (c .accept2 .ensures (called (c .before .before .before .before .before .before .before .before .before .before .before .args .s) 3) (e .0)), rw (t, told) (e .1))
 
 calls-timer : tie.Need-returns-5
 unfolding accepted
@@ -91,7 +91,7 @@ course-of-spec =
     (λ c κs. room (c .before .before .before .before))
     (λ c κs. search needs)
     (λ c. search needs)
-    (λ c κs. (c .before .before .before .before .before .before .pre .0, room (c .before .before .before)))
+    (λ c κs. (c .before .before .before .before .before .before .before .pre .0, room (c .before .before .before)))
     refuses
     resets
     waited

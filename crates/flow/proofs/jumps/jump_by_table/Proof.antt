@@ -1,8 +1,8 @@
 -- `flow::jumps::jump_by_table` meets its contract.
 -- Assumes nothing.
 use Rattle.isa.specs.Choice.{pick}
+use Rattle.machine.proofs.Seeing.{found-lacking, found-byte}
 use borrow.Author.Needs.{needs}
-use borrow.Author.Tests.{le-leb, lt-leb}
 use Rattle.flow.proofs.jumps.jump_by_table.Statement.{statement}
 use Rattle.flow.proofs.jumps.jump_by_table.Tie as tie
 
@@ -13,9 +13,9 @@ jump-by-table-spec =
     (tie.spec
     (λ c κs. search needs)
     (λ c κs. search needs)
-    (λ c. simp (le-leb _ _ (c .before .before .if1 .taken), c .before .with-pc .ensures, c .lacking-effect .ensures))
-    (λ c. search needs)
+    (λ c κs. search needs)
+    (λ c. simp (found-lacking _ _ _ _ _ (c .before .before .before .fetch .ensures) (c .before .before .if1 .taken), c .before .with-pc .ensures, c .lacking-effect .ensures))
     (λ c κs. search needs)
     (λ c κs. search needs)
     (λ c κs. search needs)
-    (λ c. simp (lt-leb _ _ (c .before .before .before .before .if1 .left), c .before .before .in-page .ensures, c .before .with-pc2 .ensures, c .quiet-effect .ensures)))
+    (λ c. simp (found-lacking _ _ _ _ _ (c .before .before .before .before .fetch .ensures) (c .before .before .before .if1 .left), c .before .before .in-page .ensures, c .before .with-pc2 .ensures, c .quiet-effect .ensures, found-byte _ _ _ _ _ (c .before .before .before .before .fetch .ensures))))

@@ -1,0 +1,13 @@
+pub mod Bench
+pub mod Cutting
+pub mod Demand1
+pub mod Demand3
+pub mod Far
+pub mod Once
+pub mod Outside
+pub mod Parts
+pub mod Sharp
+pub mod Starting
+pub mod Story
+pub mod TableBytes
+pub mod Tables
