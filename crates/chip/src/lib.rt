@@ -187,6 +187,7 @@ fn do_step(
     }
 }
 
+// A refused step: its number, the state it got, and nothing else.
 fn refuse(number: u8, state: State) -> Outcome
     ensures { λ r. ⌜ r ≡ refusedBy number state ⌝ }
 {

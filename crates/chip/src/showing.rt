@@ -37,21 +37,27 @@ fn event_of(code: u8, ram: &[u8], s: State) -> Event
     let held = memory::register(s.psw, code);
     let port = code % 8;
     let digit = s.a % 16;
+    // 80, 81: MOVX A,@Rr
     if code / 2 == 0x40 {
         return Event::ExternalRead(memory::cell(ram, held));
     }
+    // 90, 91: MOVX @Rr,A
     if code / 2 == 0x48 {
         return Event::ExternalWrite(memory::cell(ram, held), s.a);
     }
+    // 0C to 0F: MOVD A,Pp
     if code / 4 == 0x03 {
         return Event::ExpanderMove(DigitMove::MovdRead, port, digit);
     }
+    // 3C to 3F: MOVD Pp,A
     if code / 4 == 0x0F {
         return Event::ExpanderMove(DigitMove::MovdWrite, port, digit);
     }
+    // 8C to 8F: ORLD Pp,A
     if code / 4 == 0x23 {
         return Event::ExpanderMove(DigitMove::Orld, port, digit);
     }
+    // 9C to 9F: ANLD Pp,A
     if code / 4 == 0x27 {
         return Event::ExpanderMove(DigitMove::Anld, port, digit);
     }
@@ -118,7 +124,8 @@ fn report_at(
     }
 }
 
-// What a step shows, if it is accepted.
+// What a step shows, if it is accepted: an instruction what it does, and no other turn anything. The code asks the table; the set is there for
+// the promise.
 pub fn report_of(
     set: Set,
     table: &[u16; 256],

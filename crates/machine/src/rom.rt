@@ -20,6 +20,7 @@ pub fn fetch(program: &[u8], outside: &[u8], ea: bool, address: u16) -> Byte
     ensures { λ r. ⌜ r ≡ fetched (now (program .entry)) (now (outside .entry)) ea address ⌝ }
 {
     let at = address as usize;
+    // Two tests, one within the other: both as one condition cost time (docs/PERFORMANCE.md).
     if !ea {
         if at < program.len() {
             return Byte {
