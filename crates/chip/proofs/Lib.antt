@@ -10,6 +10,5 @@ pub mod Linking
 pub mod Modes
 pub mod Overflows
 pub mod Runs
-pub mod Shows
 pub mod Standby
 pub mod Turns

@@ -125,11 +125,11 @@ fn run_lent(
             number: isa::number(Refusal::SetUnknown),
             used: 0,
             cycles: 0,
-            shown: chip::nothing_shown(),
+            shown: runs::nothing_shown(),
         };
     };
     let start = bytes::state_of(&state[..]);
-    let p = chip::play(named, program, outside, ram, start, samples, asked);
+    let p = runs::play(named, program, outside, ram, start, samples, asked);
     let r = p.ran;
     let shown = p.shown;
     if r.used != 0 {

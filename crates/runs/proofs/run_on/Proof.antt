@@ -1,4 +1,4 @@
--- `chip::run_on` meets its contract. The loop's invariant: the run from here on is the run from the start, and 1, 2 and 3 are not given.
+-- `runs::run_on` meets its contract. The loop's invariant: the run from here on is the run from the start, and 1, 2 and 3 are not given.
 -- Each turn is a law of Runs or of Laws.
 -- Assumes nothing.
 use Prim.Native.Nat.{ℕ, _-_, _≤_}
@@ -11,12 +11,12 @@ use borrow.Author.Needs.{needs}
 use Rattle.machine.specs.Rom.{Roms, both}
 use Rattle.machine.specs.declared.State.{State}
 use Rattle.effects.specs.declared.Event.{Event}
 use Rattle.chip.specs.Admission.{lentOf}
 use Rattle.chip.specs.Run.{Progress, Ended, begun, runOver}
 use Rattle.chip.proofs.Laws.{still-stands}
 use Rattle.chip.proofs.Runs.{next, run-short, spent, went, halted}
-use Rattle.chip.proofs.run_on.Statement.{statement}
-use Rattle.chip.proofs.run_on.Tie as tie
+use Rattle.runs.proofs.run_on.Statement.{statement}
+use Rattle.runs.proofs.run_on.Tie as tie
 
 -- How far the run has come; the events of the steps so far are not in the code.
 record Going (roms : Roms) (samples ram₀ : List ℕ) (state₀ : State) (ram : List ℕ) (state : State) (i cycles : ℕ) : Type 0 where

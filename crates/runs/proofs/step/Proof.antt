@@ -1,11 +1,11 @@
--- `chip::step` meets its contract: what 1, 2 and 3 refuse, the definition refuses too.
+-- `runs::step` meets its contract: what 1, 2 and 3 refuse, the definition refuses too.
 -- Assumes nothing.
 use denote.Ref.{now}
 use borrow.Author.Needs.{needs}
 use Rattle.machine.specs.Rom.{both}
 use Rattle.chip.proofs.Exactly.{lent-refuses, refused-step}
-use Rattle.chip.proofs.step.Statement.{statement}
-use Rattle.chip.proofs.step.Tie as tie
+use Rattle.runs.proofs.step.Statement.{statement}
+use Rattle.runs.proofs.step.Tie as tie
 
 not-admitted : tie.Need-returns
 not-admitted c =

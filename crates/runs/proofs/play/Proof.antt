@@ -1,14 +1,14 @@
--- `chip::play` meets its contract.
+-- `runs::play` meets its contract.
 -- Assumes nothing.
 use denote.Ref.{now}
 use borrow.Author.Needs.{needs}
 use borrow.Author.Tests.{eq-eqb, ne-eqb}
 use Rattle.isa.specs.Choice.{pick}
 use Rattle.machine.specs.Rom.{both}
 use Rattle.chip.specs.Run.{unshown, runOf}
 use Rattle.chip.proofs.Runs.{same-or-none, first-unshown, first-taken, lent-unshown}
-use Rattle.chip.proofs.play.Statement.{statement}
-use Rattle.chip.proofs.play.Tie as tie
+use Rattle.runs.proofs.play.Statement.{statement}
+use Rattle.runs.proofs.play.Tie as tie
 
 not-admitted : tie.Need-returns
 unfolding runOf pick

@@ -1,7 +1,7 @@
 // What a step shows outside, from the state before it: its event, and how many bytes it takes from the second program. Only a single step is
 // asked for it; a run isn't, and spends no time on it.
-use crate::Report;
-use crate::Turn;
+use chip::Report;
+use chip::Turn;
 use effects::Event;
 use effects::memory;
 use isa::DigitMove;
@@ -140,7 +140,7 @@ pub fn report_of(
     requires { ⌜ lentOf (both set (now program) (now outside)) (now ram) s ≡ 0 ⌝ }
     ensures { λ r. ⌜ (stepOf (both set (now (program .entry)) (now (outside .entry))) (now (ram .entry)) s first second .number ≡ 0 → r ≡ reportOf (stepOf (both set (now (program .entry)) (now (outside .entry))) (now (ram .entry)) s first second)) ⌝ }
 {
-    match crate::acting::turn_of(s, first, second) {
+    match chip::acting::turn_of(s, first, second) {
         Turn::Refuse => crate::nothing_shown(),
         Turn::Reset => crate::nothing_shown(),
         Turn::Wait => crate::nothing_shown(),

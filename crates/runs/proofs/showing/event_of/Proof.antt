@@ -1,13 +1,13 @@
--- `chip::showing::event_of` meets its contract: each `return` is what a group of codes shows.
+-- `runs::showing::event_of` meets its contract: each `return` is what a group of codes shows.
 -- Assumes nothing.
 use denote.Ref.{now}
 use native.Mathlib.Omega.{arith}
 use borrow.Author.Needs.{needs}
 use borrow.Author.Tests.{eq-eqb, ne-eqb}
 use Rattle.isa.specs.Choice.{pick}
-use Rattle.chip.proofs.Shows.{event-shown}
-use Rattle.chip.proofs.showing.event_of.Statement.{statement}
-use Rattle.chip.proofs.showing.event_of.Tie as tie
+use Rattle.runs.proofs.Shows.{event-shown}
+use Rattle.runs.proofs.showing.event_of.Statement.{statement}
+use Rattle.runs.proofs.showing.event_of.Tie as tie
 
 movx-read : tie.Need-returns
 unfolding pick

@@ -1,4 +1,4 @@
--- `chip::showing::report_of` meets its contract: an instruction shows what it does, and no other turn anything.
+-- `runs::showing::report_of` meets its contract: an instruction shows what it does, and no other turn anything.
 -- Assumes nothing.
 use Prim.Native.Nat.{ℕ, _≤_}
 use denote.Ref.{now}
@@ -7,13 +7,13 @@ use mathlib.Core.Path.{_≡_, subst}
 use lib.ListN.{length}
 use borrow.Author.Needs.{needs}
 use Rattle.machine.specs.Rom.{Roms, both}
 use Rattle.chip.specs.Step.{courseBy, course}
 use Rattle.chip.specs.declared.Turn.{Turn}
 use Rattle.chip.specs.declared.Turn.the-variants.{Refuse, Reset, Wait, ExternalCall, TimerCall}
 use Rattle.chip.proofs.Exactly.{roomy}
-use Rattle.chip.proofs.Shows.{shows-nothing, shows-instruction}
-use Rattle.chip.proofs.showing.report_of.Statement.{statement}
-use Rattle.chip.proofs.showing.report_of.Tie as tie
+use Rattle.runs.proofs.Shows.{shows-nothing, shows-instruction}
+use Rattle.runs.proofs.showing.report_of.Statement.{statement}
+use Rattle.runs.proofs.showing.report_of.Tie as tie
 
 abbrev lent : (c : tie.After-turn-of) → Roms
 lent c = let a = c .before .before .before .before .args in both (a .set) (now (a .program)) (now (a .outside))

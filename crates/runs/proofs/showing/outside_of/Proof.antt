@@ -1,12 +1,12 @@
--- `chip::showing::outside_of` meets its contract.
+-- `runs::showing::outside_of` meets its contract.
 -- Assumes nothing.
 use native.Mathlib.Omega.{arith}
 use borrow.Author.Needs.{needs}
 use borrow.Author.Tests.{eq-eqb, ne-eqb}
 use native.Mathlib.Nat.{add-zero}
 use Rattle.isa.specs.Choice.{pick}
-use Rattle.chip.proofs.showing.outside_of.Statement.{statement}
-use Rattle.chip.proofs.showing.outside_of.Tie as tie
+use Rattle.runs.proofs.showing.outside_of.Statement.{statement}
+use Rattle.runs.proofs.showing.outside_of.Tie as tie
 
 second : tie.Need-returns
 unfolding pick

@@ -1,8 +1,8 @@
--- `chip::refuse` meets its contract.
+-- `runs::refuse` meets its contract.
 -- Assumes nothing.
 use borrow.Author.Needs.{needs}
-use Rattle.chip.proofs.refuse.Statement.{statement}
-use Rattle.chip.proofs.refuse.Tie as tie
+use Rattle.runs.proofs.refuse.Statement.{statement}
+use Rattle.runs.proofs.refuse.Tie as tie
 
 pub refuse-spec : {M : Type 1} → statement M
 refuse-spec = tie.close (tie.spec (λ c κs. search needs) (λ c. rw (c .nothing-shown .ensures)))

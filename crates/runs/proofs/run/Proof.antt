@@ -1,10 +1,10 @@
--- `chip::run` meets its contract.
+-- `runs::run` meets its contract.
 -- Assumes nothing.
 use mathlib.Core.Path.{ap}
 use borrow.Author.Needs.{needs}
 use Rattle.chip.specs.declared.Played.{Played}
-use Rattle.chip.proofs.run.Statement.{statement}
-use Rattle.chip.proofs.run.Tie as tie
+use Rattle.runs.proofs.run.Statement.{statement}
+use Rattle.runs.proofs.run.Tie as tie
 
 pub run-spec : {M : Type 1} → statement M
 run-spec =

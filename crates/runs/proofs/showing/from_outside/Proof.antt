@@ -1,13 +1,13 @@
--- `chip::showing::from_outside` meets its contract.
+-- `runs::showing::from_outside` meets its contract.
 -- Assumes nothing.
 use mathlib.Core.Path.{sym, ap, _∙_}
 use native.Mathlib.Omega.{arith}
 use borrow.Author.Needs.{needs}
 use Rattle.machine.specs.Rom.{fetched}
 use Rattle.machine.specs.declared.rom.Byte.{Byte}
 use Rattle.chip.specs.Outside.{countedOutside}
-use Rattle.chip.proofs.showing.from_outside.Statement.{statement}
-use Rattle.chip.proofs.showing.from_outside.Tie as tie
+use Rattle.runs.proofs.showing.from_outside.Statement.{statement}
+use Rattle.runs.proofs.showing.from_outside.Tie as tie
 
 inside : tie.Need-returns
 unfolding fetched

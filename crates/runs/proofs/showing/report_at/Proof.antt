@@ -1,14 +1,14 @@
--- `chip::showing::report_at` meets its contract.
+-- `runs::showing::report_at` meets its contract.
 -- Assumes nothing.
 use native.Mathlib.Omega.{arith}
 use denote.Ref.{now}
 use mathlib.Core.Path.{refl}
 use borrow.Author.Needs.{needs}
 use Rattle.machine.specs.Rom.{both}
 use Rattle.chip.proofs.Fetches.{entry-is}
-use Rattle.chip.proofs.Shows.{shows}
-use Rattle.chip.proofs.showing.report_at.Statement.{statement}
-use Rattle.chip.proofs.showing.report_at.Tie as tie
+use Rattle.runs.proofs.Shows.{shows}
+use Rattle.runs.proofs.showing.report_at.Statement.{statement}
+use Rattle.runs.proofs.showing.report_at.Tie as tie
 
 shown : tie.Need-returns
 shown c second =

@@ -1,12 +1,12 @@
--- `chip::shown_ahead` meets its contract.
+-- `runs::shown_ahead` meets its contract.
 -- Assumes nothing.
 use mathlib.Core.Path.{sym, _∙_}
 use borrow.Author.Needs.{needs}
 use borrow.Author.Tests.{not-true, not-false}
 use Rattle.isa.specs.Choice.{pick}
-use Rattle.chip.proofs.Shows.{short-unshown, shown-first}
-use Rattle.chip.proofs.shown_ahead.Statement.{statement}
-use Rattle.chip.proofs.shown_ahead.Tie as tie
+use Rattle.runs.proofs.Shows.{short-unshown, shown-first}
+use Rattle.runs.proofs.shown_ahead.Statement.{statement}
+use Rattle.runs.proofs.shown_ahead.Tie as tie
 
 not-asked : tie.Need-returns
 unfolding pick
