@@ -96,9 +96,9 @@ course-still roms ram s first second u =
     either (Still s) _ _ _ (λ t. declined-still s _ s (eqb-false _ _ (not-true _ t)))
     (λ t. either (Still s) _ _ _ (λ v. absurd (false≢true (sym (u .no-reset) ∙ v)))
     (λ v. either (Still s) _ _ _ (λ h. waits-still s first)
-    (λ h. either (Still s) _ _ _ (λ w. accepted-still s _ 2 (called-keeps s 3))
+    (λ h. either (Still s) _ _ _ (λ w. accepted-still s _ 2 (called-keeps s _))
     (λ w. either (Still s) _ _ _
-    (λ x. accepted-still s _ 2 (called-keeps (withoutRequest s) 7 .0 ∙ request-keeps s, called-keeps (withoutRequest s) 7 .1))
+    (λ x. accepted-still s _ 2 (called-keeps (withoutRequest s) _ .0 ∙ request-keeps s, called-keeps (withoutRequest s) _ .1))
     (λ x.
     let c = carried-still (seenBy roms first) ram s first second
     (λ i n e. u .none-of-four i (record { no-reset = v; no-wait = h; no-external = w; no-timer = x; bytes = n; stands = e })) in

@@ -21,14 +21,13 @@ use Rattle.machine.proofs.Seeing.{visible-lacks}
 use Rattle.machine.specs.State.{permitted, runningAt}
 use Rattle.machine.specs.declared.State.{State}
 use Rattle.effects.specs.Effect.{Nothing, Effect, written}
-use Rattle.effects.specs.Moves.{quiet}
 use Rattle.effects.specs.declared.Event.the-variants.{Quiet}
 use Rattle.flow.specs.Stack.{pushed}
 use Rattle.execute.specs.Execute.{executed}
 use Rattle.chip.specs.Admission.{programAllowed, outsideAllowed, ramAllowed, sampleAllowed, sampleNumber, lentNumber, lentOf, admission}
 use Rattle.chip.specs.Refusals.{Fetches, lacking, Gives, program-length, outside-length, ram-length, state-outside, sample-bits, no-first-byte, undefined-code, no-second-byte, no-table-byte, TableByte, of-movp, of-movp3, of-jmpp}
-use Rattle.chip.specs.Step.{Course, Plan, externalCalls, timerCalls, pcAfter, resetState, waits, called, withoutRequest, declined, accepted, done, carriedBy, carried, courseBy, course, refusedBy, planBy, planOf, stepOf, ramAfter}
-use Rattle.chip.specs.declared.Turn.the-variants.{CarryOut}
+use Rattle.chip.specs.Step.{Course, Plan, externalCalls, timerCalls, pcAfter, waits, declined, accepted, done, carriedBy, carried, courseBy, course, refusedBy, planBy, planOf, stepOf, ramAfter}
+use Rattle.chip.specs.declared.Turn.the-variants.{Reset, Wait, ExternalCall, TimerCall, CarryOut}
 use Rattle.chip.proofs.Choices.{either}
 
 -- A refused step returns its number, the state it got, no event, 0 cycles and 0 samples, and leaves RAM as it was.
@@ -284,9 +283,10 @@ module _ (roms : Roms) (ram : List ℕ) (s : State) (first second : ℕ) where
 
       go :
           (p q w r t : Bool) → eqb number 0 ≡ p → isLow resetPin first ≡ q → isWaiting (s .mode) ≡ w → externalCalls s first ≡ r → timerCalls s ≡ t
-          → pick (not p) (declined number s) (pick q (accepted (quiet (resetState s)) 1) (pick w (waits s first)
-          (pick r (accepted (called s 3) 2)
-          (pick t (accepted (called (withoutRequest s) 7) 2) (courseBy CarryOut roms ram s first second))))) .number ≡ n → G n
+          → pick (not p) (declined number s)
+          (pick q (courseBy Reset roms ram s first second) (pick w (courseBy Wait roms ram s first second)
+          (pick r (courseBy ExternalCall roms ram s first second)
+          (pick t (courseBy TimerCall roms ram s first second) (courseBy CarryOut roms ram s first second))))) .number ≡ n → G n
       go false q w r t hp hq hw hr ht e = admission-gives n e z
       go true true w r t hp hq hw hr ht e = absurd (z (sym e))
       go true false true r t hp hq hw hr ht e = absurd (z (sym e))

@@ -136,6 +136,6 @@ course-once roms ram s first second =
     either Once _ _ _ (λ t. declined-once _ s (eqb-false _ _ (not-true _ t)))
     (λ t. either Once _ _ _ (λ u. accepted-once _ _ (λ two. refl))
     (λ u. either Once _ _ _ (λ h. waits-once s first)
-    (λ h. either Once _ _ _ (λ v. accepted-once _ _ (λ two. called-once s 3))
-    (λ v. either Once _ _ _ (λ w. accepted-once _ _ (λ two. called-once _ 7))
+    (λ h. either Once _ _ _ (λ v. accepted-once _ _ (λ two. called-once s _))
+    (λ v. either Once _ _ _ (λ w. accepted-once _ _ (λ two. called-once _ _))
     (λ w. record { once = carried-once (seenBy roms first) ram s first second .once })))))

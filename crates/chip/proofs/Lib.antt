@@ -5,10 +5,10 @@ pub mod Exactly
 pub mod Fetches
 pub mod Fresh
 pub mod Lasting
-pub mod Laws
 pub mod Linking
 pub mod Modes
 pub mod Overflows
+pub mod Permitted
 pub mod Runs
 pub mod Standby
 pub mod Turns

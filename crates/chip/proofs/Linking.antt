@@ -7,13 +7,13 @@ use mathlib.Core.Path.{_≡_, refl, sym, _∙_, subst}
 use native.Mathlib.Omega.{arith}
 use lib.Dec.{eqb, leb}
 use lib.ListN.{length, drop}
-use borrow.Author.Tests.{eq-eqb, eqb-true, eqb-false, leb-true, leb-false}
+use borrow.Author.Tests.{eq-eqb, ne-eqb, eqb-true, eqb-false, leb-true, leb-false}
 use Rattle.isa.specs.Choice.{pick}
 use Rattle.machine.specs.Rom.{Roms}
 use Rattle.machine.specs.declared.State.{State}
 use Rattle.chip.specs.Admission.{lentOf}
 use Rattle.chip.specs.History.{planAt, after, Steps, none, more, waitsIn, firstOf, secondOf, Reads, HistoryOf}
-use Rattle.chip.specs.Run.{Progress, Ended, begun, runOver, runOf}
+use Rattle.chip.specs.Run.{Progress, Ended, begun, ended, runOver, runOf}
 use Rattle.chip.proofs.Cycles.{one-or-two, samples-used}
 use Rattle.chip.proofs.Runs.{run-short, run-refused, run-step}
 
@@ -122,3 +122,8 @@ module _ (roms : Roms) (ram : List ℕ) (s : State) (samples : List ℕ) where
 
     pub run-history : HistoryOf roms ram s samples (runOf roms ram s samples)
     run-history = subst (λ (r : Ended). HistoryOf roms ram s samples r) (sym run-over) over-history
+
+  -- And a run that they refuse does nothing.
+  pub not-begun : (lentOf roms ram s ≡ 0 → ⊥) → runOf roms ram s samples ≡ ended (begun ram s) (lentOf roms ram s)
+  unfolding runOf pick
+  not-begun n = rw (ne-eqb _ _ n)

@@ -15,7 +15,7 @@ use Rattle.machine.specs.Rom.{Roms}
 use Rattle.machine.specs.declared.State.{State}
 use Rattle.effects.specs.Effect.{written}
 use Rattle.chip.specs.Admission.{lentOf}
-use Rattle.chip.specs.Run.{Progress, Ended, begun, gone, turned, ended, firstShown, firstAccepted, unshown, runOver}
+use Rattle.chip.specs.Run.{Progress, Ended, begun, gone, turned, ended, firstShown, firstAccepted, unshown, runBy, runOver}
 use Rattle.chip.specs.Step.{Plan, planOf, movedOf, reportOf, stepOf, ramAfter}
 use Rattle.chip.specs.declared.Moved.{Moved}
 use Rattle.chip.specs.declared.Report.{Report}
@@ -24,7 +24,7 @@ use Rattle.chip.proofs.Exactly.{refused-unchanged, lent-refuses}
 use Rattle.chip.proofs.Lasting.{Busy, plan-busy}
 
 short : (roms : Roms) (xs : List ℕ) (m : Progress) → length xs ≤ 1 → runOver roms xs m ≡ ended m 0
-unfolding runOver
+unfolding runBy
 short roms [] m h = refl
 short roms (x ∷ []) m h = refl
 short roms (x ∷ (y ∷ zs)) m h = absurd (omega arith)
@@ -47,19 +47,19 @@ module _ (roms : Roms) (samples : List ℕ) (i : ℕ) (m : Progress) where
       drop-cons samples i 0 q ∙ ap (λ l. getD samples i 0 ∷ l) (one-left p)
 
   pub run-refused : i + 1 < length samples → (next .number ≡ 0 → ⊥) → runOver roms (drop i samples) m ≡ ended m (next .number)
-  unfolding runOver pick
+  unfolding runBy pick
   run-refused h n = rw (two-left h, ne-eqb _ _ n)
 
   goes-one :
       i + 1 < length samples → next .number ≡ 0 → next .used ≡ 1
       → runOver roms (drop i samples) m ≡ runOver roms (getD samples (i + 1) 0 ∷ drop (suc (suc i)) samples) (gone m next)
-  unfolding runOver pick
+  unfolding runBy pick
   goes-one h n e = rw (two-left h, eq-eqb _ _ n, eq-eqb _ _ e)
 
   goes-two :
       i + 1 < length samples → next .number ≡ 0 → (next .used ≡ 1 → ⊥)
       → runOver roms (drop i samples) m ≡ runOver roms (drop (suc (suc i)) samples) (gone m next)
-  unfolding runOver pick
+  unfolding runBy pick
   goes-two h n e = rw (two-left h, eq-eqb _ _ n, ne-eqb _ _ e)
 
   busy : Busy next
@@ -129,7 +129,7 @@ turn-used p m one two f g = go (eqb (p .number) 0) (eqb (p .used) 1) refl
     go true false h = let l = g (gone m p) in (omega (arith, l), λ z. l)
 
 over-used : (roms : Roms) (xs : List ℕ) (m : Progress) → m .used ≤ runOver roms xs m .ran .used
-unfolding runOver
+unfolding runBy
 over-used roms [] m = omega arith
 over-used roms (x ∷ []) m = omega arith
 over-used roms (x ∷ (y ∷ rest)) m =
@@ -143,14 +143,14 @@ same-or-none false r = refl
 -- It used a sample exactly if there was a first step, and it was accepted; else that shows nothing.
 module _ (roms : Roms) (ram : List ℕ) (s : State) where
   first-used : (x y : ℕ) (rest : List ℕ) → planOf roms ram s x y .number ≡ 0 → 1 ≤ runOver roms (x ∷ (y ∷ rest)) (begun ram s) .ran .used
-  unfolding runOver
+  unfolding runBy
   first-used x y rest n =
       let u = turn-used (planOf roms ram s x y) (begun ram s) (runOver roms (y ∷ rest)) (runOver roms rest) (λ k. over-used roms (y ∷ rest) k) (λ k. over-used roms rest k) .1 n in
       let o = one-or-two roms (begun ram s) x y n in
       omega (arith, u, o .0)
 
   first-refused : (x y : ℕ) (rest : List ℕ) → (planOf roms ram s x y .number ≡ 0 → ⊥) → runOver roms (x ∷ (y ∷ rest)) (begun ram s) .ran .used ≡ 0
-  unfolding runOver pick
+  unfolding runBy pick
   first-refused x y rest n = rw (ne-eqb _ _ n)
 
   pub first-unshown : (xs : List ℕ) → runOver roms xs (begun ram s) .ran .used ≡ 0 → firstShown roms ram s xs ≡ unshown
@@ -164,8 +164,8 @@ module _ (roms : Roms) (ram : List ℕ) (s : State) where
 
   pub first-taken : (xs : List ℕ) → (runOver roms xs (begun ram s) .ran .used ≡ 0 → ⊥) → firstAccepted roms ram s xs ≡ true
   unfolding firstAccepted
-  first-taken [] e = absurd (e (unfold runOver in refl))
-  first-taken (x ∷ []) e = absurd (e (unfold runOver in refl))
+  first-taken [] e = absurd (e (unfold runBy in refl))
+  first-taken (x ∷ []) e = absurd (e (unfold runBy in refl))
   first-taken (x ∷ (y ∷ rest)) e = go (eqb (planOf roms ram s x y .number) 0) refl
     where
       go : (b : Bool) → eqb (planOf roms ram s x y .number) 0 ≡ b → b ≡ true

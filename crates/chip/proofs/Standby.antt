@@ -35,16 +35,16 @@ use Rattle.chip.specs.Cases.{seen, blank}
 use Rattle.chip.specs.History.{after, Steps, none, more}
 use Rattle.chip.specs.Outside.{fromOutside}
 use Rattle.chip.specs.Refusals.{Fetches, Gives, program-length, outside-length, ram-length, state-outside, sample-bits, no-first-byte, undefined-code, no-second-byte, no-table-byte}
-use Rattle.chip.specs.Run.{Progress, Ended, begun, gone, ended, turned, runOver, runOf}
+use Rattle.chip.specs.Run.{Progress, Ended, begun, gone, ended, turned, runBy, runOver, runOf}
 use Rattle.chip.specs.Standby.{AllUnnoticed, later, resumed, OneInstruction, Resumes, carried-out, not-carried-out, Calls7, necCases, intelCases, nap, napSamples, napSight, nearly}
 use Rattle.chip.specs.Step.{Course, Plan, declined, accepted, released, waits, resetState, called, withoutRequest, pcAfter, done, carried, withOutside, courseBy, course, ticked, settled, planBy, planOf}
 use Rattle.chip.specs.declared.Turn.the-variants.{CarryOut}
 use Rattle.chip.proofs.Answering.{external-off, timer-on, call-pc, call-service, settled-pc, settled-service}
 use Rattle.chip.proofs.Cycles.{course-number, same-used}
 use Rattle.chip.proofs.Exactly.{allowed, admitted, comes-to, exactly-from}
-use Rattle.chip.proofs.Laws.{still-stands, intel-cycles}
 use Rattle.chip.proofs.Linking.{run-over}
-use Rattle.chip.proofs.Modes.{settled-mode}
+use Rattle.chip.proofs.Modes.{settled-mode, intel-cycles}
+use Rattle.chip.proofs.Permitted.{still-stands}
 use Rattle.chip.proofs.Turns.{refuses, waits-in, calls-timer}
 
 -- ---- a halted or stopped step
@@ -83,7 +83,7 @@ both x y p q = rw (p, q)
 module _ (roms : Roms) (m : Progress) (lent : lentOf roms (m .ram) (m .state) ≡ 0) (h : isWaiting (m .state .mode) ≡ true)
     (x z : ℕ) (zs : List ℕ) (fine : sampleAllowed x ≡ true) (fine' : sampleAllowed z ≡ true) (high : isLow resetPin x ≡ false) where
   over-wait : runOver roms (x ∷ (z ∷ zs)) m ≡ runOver roms (z ∷ zs) (gone m (waitPlan (m .state) x))
-  unfolding runOver pick
+  unfolding runBy pick
   over-wait = rw (wait-step roms (m .ram) (m .state) lent h x z (both (sampleAllowed x) (sampleAllowed z) fine fine') high)
 
   over-unnoticed : isLow intPin x ≡ false → runOver roms (x ∷ (z ∷ zs)) m ≡ runOver roms (z ∷ zs) (later m 1 (m .state .mode))
@@ -130,7 +130,7 @@ unfolding declined
 declined-number n s = refl
 
 -- The numbers that a step can be refused with where 1, 2 and 3 are not given.
-numbers :
+pub numbers :
     (roms : Roms) (ram : List ℕ) (s : State) (first second n : ℕ) → lentOf roms ram s ≡ 0 → Gives roms ram s first second n
     → (n ≡ 4) ⊎ ((n ≡ 5) ⊎ (n ≡ 6))
 numbers roms ram s first second n lent (program-length p) =
@@ -165,7 +165,7 @@ module _ (roms : Roms) (ram : List ℕ) (s : State) (lent : lentOf roms ram s �
   not-allowed : (sampleAllowed x && sampleAllowed y) ≡ false → ran .ran .number ≡ 6
   not-allowed b =
       ap (λ (e : Ended). e .ran .number) (run-over roms ram s (x ∷ (y ∷ (z ∷ []))) lent)
-      ∙ (unfold runOver planBy declined pick in rw (refuses roms ram s x y lent b))
+      ∙ (unfold runBy planBy declined pick in rw (refuses roms ram s x y lent b))
 
   module _ (fine : (sampleAllowed x && sampleAllowed y) ≡ true) where
     goes : ran ≡ runOver roms (y ∷ (z ∷ [])) start
@@ -193,7 +193,7 @@ module _ (roms : Roms) (ram : List ℕ) (s : State) (lent : lentOf roms ram s �
         (numbers roms ram free y z (second-step .number) free-lent (exactly-from roms ram free y z (second-step .number) refl n)))
       where
         refused-there : runOver roms (y ∷ (z ∷ [])) start .ran .number ≡ second-step .number
-        refused-there = unfold runOver start free pick in rw (ne-eqb _ _ n)
+        refused-there = unfold runBy start free pick in rw (ne-eqb _ _ n)
 
     -- or carries out the instruction at PC.
     module _ (n : second-step .number ≡ 0) where
@@ -248,13 +248,13 @@ module _ (roms : Roms) (ram : List ℕ) (s : State) (lent : lentOf roms ram s �
                 ≡ turned whole start (runOver roms (z ∷ [])) (runOver roms [])
             turns =
                 let goes-on : runOver roms (y ∷ (z ∷ [])) start ≡ turned second-step start (runOver roms (z ∷ [])) (runOver roms []) =
-                unfold runOver start free in refl
+                unfold runBy start free in refl
                 in
                 goes-on ∙ ap (λ (p : Plan). turned p start (runOver roms (z ∷ [])) (runOver roms [])) planned
 
             go : (b : Bool) → eqb (whole .used) 1 ≡ b → runOver roms (y ∷ (z ∷ [])) start ≡ ended (gone start whole) 0
-            go true e = turns ∙ (unfold runOver pick in rw e)
-            go false e = turns ∙ (unfold runOver pick in rw e)
+            go true e = turns ∙ (unfold runBy pick in rw e)
+            go false e = turns ∙ (unfold runBy pick in rw e)
 
         one : OneInstruction roms ram s y z ran
         one =
@@ -345,11 +345,11 @@ intel-samples {roms} e (more {k = k} first second h a) =
 
 -- ---- cases, by computation
 pub nec-seen : map (seen Nec) necCases ≡ map (λ c. c .want) necCases
-unfolding runOf runOver planBy settled ticked course carried done accepted declined waits resetState called withoutRequest written admission lentNumber executed pushed instructionAt decodedAt visible entryOf kindOf pick
+unfolding runOf runBy planBy settled ticked course carried done accepted declined waits resetState called withoutRequest written admission lentNumber executed pushed instructionAt decodedAt visible entryOf kindOf pick
 nec-seen = refl
 
 pub intel-seen : map (seen Intel) intelCases ≡ map (λ c. c .want) intelCases
-unfolding runOf runOver planBy settled ticked course carried done accepted declined waits resetState called withoutRequest written admission lentNumber executed pushed instructionAt decodedAt visible entryOf kindOf pick
+unfolding runOf runBy planBy settled ticked course carried done accepted declined waits resetState called withoutRequest written admission lentNumber executed pushed instructionAt decodedAt visible entryOf kindOf pick
 intel-seen = refl
 
 -- The overflow is in cycle 1, HALT's own. The call waits for the release and for the one instruction, here a jump of two cycles, and is complete
@@ -362,5 +362,5 @@ pub nap-seen :
     ∷ record { mode = 0; used = 7; cycles = 3; pc = 0x001; request = true; service = false }
     ∷ record { mode = 0; used = 9; cycles = 5; pc = 0x007; request = false; service = true }
     ∷ []
-unfolding runOf runOver planBy settled ticked course carried done accepted declined waits resetState called withoutRequest written admission lentNumber executed pushed instructionAt decodedAt visible entryOf kindOf pick
+unfolding runOf runBy planBy settled ticked course carried done accepted declined waits resetState called withoutRequest written admission lentNumber executed pushed instructionAt decodedAt visible entryOf kindOf pick
 nap-seen = refl

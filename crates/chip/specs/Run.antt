@@ -59,26 +59,30 @@ ended m number =
 abbrev pub turned : Plan → Progress → (Progress → Ended) → (Progress → Ended) → Ended
 turned p m one two = pick (eqb (p .number) 0) (pick (eqb (p .used) 1) one two (gone m p)) (ended m (p .number))
 
--- The run over the samples that are left. "A run steps while two samples remain, or until a refusal"; "0 if samples ran out". A step is
--- given the samples x and y; where it used one, y is the next step's first.
-unfoldable pub runOver : Roms → List ℕ → Progress → Ended
-runOver roms [] m = ended m 0
-runOver roms (x ∷ []) m = ended m 0
-runOver roms (x ∷ (y ∷ rest)) m =
-    turned (planOf roms (m .ram) (m .state) x y) m (runOver roms (y ∷ rest)) (runOver roms rest)
+-- The run over the samples that are left, by a step that is given the RAM, the state and two samples. "A run steps while two samples remain,
+-- or until a refusal"; "0 if samples ran out". Where the step used x alone, y is the next step's first.
+unfoldable pub runBy : (List ℕ → State → ℕ → ℕ → Plan) → List ℕ → Progress → Ended
+runBy step [] m = ended m 0
+runBy step (x ∷ []) m = ended m 0
+runBy step (x ∷ (y ∷ rest)) m = turned (step (m .ram) (m .state) x y) m (runBy step (y ∷ rest)) (runBy step rest)
 
--- "With 0 or 1 sample it checks 1, 2, 3 and does nothing."
+-- By the whole step, which asks for 1, 2 and 3 each time.
+abbrev pub runOver : Roms → List ℕ → Progress → Ended
+runOver roms samples m = runBy (planOf roms) samples m
+
+-- 1, 2 and 3 at a run's start: "With 0 or 1 sample it checks 1, 2, 3 and does nothing."
+abbrev pub checked : Roms → List ℕ → State → Ended → Ended
+checked roms ram s e = pick (eqb (lentOf roms ram s) 0) e (ended (begun ram s) (lentOf roms ram s))
+
 unfoldable pub runOf : Roms → List ℕ → State → List ℕ → Ended
-runOf roms ram s samples =
-    pick (eqb (lentOf roms ram s) 0) (runOver roms samples (begun ram s))
-    (ended (begun ram s) (lentOf roms ram s))
+runOf roms ram s samples = checked roms ram s (runOver roms samples (begun ram s))
 
--- Something holds of the state before each step of a run and of the step's first sample.
-unfoldable pub EachStep : (State → ℕ → Type 0) → Roms → List ℕ → Progress → Type 0
+-- Something holds of each step of a run: of the RAM, the state and the two samples that it is given.
+unfoldable pub EachStep : (List ℕ → State → ℕ → ℕ → Type 0) → Roms → List ℕ → Progress → Type 0
 EachStep P roms [] m = Unit {0}
 EachStep P roms (x ∷ []) m = Unit {0}
 EachStep P roms (x ∷ (y ∷ rest)) m =
-    P (m .state) x
+    P (m .ram) (m .state) x y
     × pick (eqb (planOf roms (m .ram) (m .state) x y .number) 0)
     (pick (eqb (planOf roms (m .ram) (m .state) x y .used) 1) (EachStep P roms (y ∷ rest)) (EachStep P roms rest)
     (gone m (planOf roms (m .ram) (m .state) x y)))

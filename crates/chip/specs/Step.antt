@@ -150,17 +150,22 @@ courseBy TimerCall roms ram s first second = accepted (called (withoutRequest s)
 courseBy CarryOut roms ram s first second =
     withOutside (fromOutside roms first s) (carried (seenBy roms first) ram s first second)
 
--- "Order: 1, 2, 3, 6; then reset; then an interrupt call (neither fetches)"; "External goes first". In a halted or stopped step "RESET low,
--- tried first, is an ordinary reset step".
+-- What a step does where none of 1, 2, 3 and 6 is given: "then reset; then an interrupt call (neither fetches)"; "External goes first". In a
+-- halted or stopped step "RESET low, tried first, is an ordinary reset step".
+abbrev pub allowedCourse : Roms → List ℕ → State → ℕ → ℕ → Course
+allowedCourse roms ram s first second =
+    pick (isLow resetPin first) (courseBy Reset roms ram s first second)
+    (pick (isWaiting (s .mode)) (courseBy Wait roms ram s first second)
+    (pick (externalCalls s first) (courseBy ExternalCall roms ram s first second)
+    (pick (timerCalls s) (courseBy TimerCall roms ram s first second)
+    (courseBy CarryOut roms ram s first second))))
+
+-- "Order: 1, 2, 3, 6", and then that.
 unfoldable pub course : Roms → List ℕ → State → ℕ → ℕ → Course
 course roms ram s first second =
     pick (not (eqb (admission roms ram s first second) 0))
     (declined (admission roms ram s first second) s)
-    (pick (isLow resetPin first) (courseBy Reset roms ram s first second)
-    (pick (isWaiting (s .mode)) (courseBy Wait roms ram s first second)
-    (pick (externalCalls s first) (courseBy ExternalCall roms ram s first second)
-    (pick (timerCalls s) (courseBy TimerCall roms ram s first second)
-    (courseBy CarryOut roms ram s first second)))))
+    (allowedCourse roms ram s first second)
 
 -- 4. "Then the cycles of the step, an interrupt call's two as well, are counted, one at a time, after its effects. The cycle of STRT T or
 -- STRT CNT itself isn't counted." "T1 is remembered every cycle, reset and STRT CNT too."

@@ -13,10 +13,10 @@ use Rattle.flow.specs.Stack.{pushed}
 use Rattle.execute.specs.Execute.{executed}
 use Rattle.chip.specs.Admission.{lentNumber, admission}
 use Rattle.chip.specs.Cases.{seen, cases}
-use Rattle.chip.specs.Run.{runOver, runOf}
+use Rattle.chip.specs.Run.{runBy, runOf}
 use Rattle.chip.specs.Step.{declined, accepted, resetState, called, withoutRequest, done, carried, course, ticked, settled, planBy}
 
 pub bench : (set : Set) → map (seen set) cases ≡ map (λ c. c .want) cases
-unfolding runOf runOver planBy settled ticked course carried done accepted declined resetState called withoutRequest written admission lentNumber executed pushed instructionAt decodedAt visible entryOf kindOf pick
+unfolding runOf runBy planBy settled ticked course carried done accepted declined resetState called withoutRequest written admission lentNumber executed pushed instructionAt decodedAt visible entryOf kindOf pick
 bench Intel = refl
 bench Nec = refl

@@ -8,17 +8,17 @@ use mathlib.Core.Path.{_≡_, refl, sym, ap, _∙_, subst}
 use native.Mathlib.Omega.{arith}
 use lib.Dec.{eqb}
 use lib.ListN.{length, getD, drop, length-append}
-use borrow.Author.Tests.{eqb-true, eqb-false, ne-eqb}
+use borrow.Author.Tests.{eqb-true, eqb-false}
 use Rattle.isa.specs.Choice.{pick}
 use Rattle.machine.specs.Rom.{Roms}
 use Rattle.machine.specs.declared.State.{State}
 use Rattle.effects.specs.declared.Event.{Event}
 use Rattle.chip.specs.Admission.{lentOf}
 use Rattle.chip.specs.History.{Steps, none, more, Reads, HistoryOf}
-use Rattle.chip.specs.Run.{Progress, Ended, begun, gone, ended, turned, runOver, runOf, Joined}
+use Rattle.chip.specs.Run.{Progress, Ended, begun, gone, ended, turned, runBy, runOver, runOf, Joined}
 use Rattle.chip.specs.Step.{Plan, planOf}
-use Rattle.chip.proofs.Laws.{still-stands}
-use Rattle.chip.proofs.Linking.{over-through, over-history, run-over}
+use Rattle.chip.proofs.Linking.{over-through, over-history, run-over, not-begun}
+use Rattle.chip.proofs.Permitted.{still-stands}
 
 -- ---- what a run makes of samples does not depend on what it did before, but for its totals and its events, which go on from there
 record Later (u c : ℕ) (es : List Event) (a b : Ended) : Type 0 where
@@ -51,7 +51,7 @@ module _ (u c : ℕ) (es : List Event) where
       go true false = subst (λ (k : Progress). Later u c es (two (gone m p)) (two k)) (sym (gone-later m p)) (g (gone m p))
 
   over-later : (roms : Roms) (xs : List ℕ) (m : Progress) → Later u c es (runOver roms xs m) (runOver roms xs (later m))
-  unfolding runOver
+  unfolding runBy
   over-later roms [] m = record { number = refl; state = refl; ram = refl; used = refl; cycles = refl; events = refl }
   over-later roms (x ∷ []) m = record { number = refl; state = refl; ram = refl; used = refl; cycles = refl; events = refl }
   over-later roms (x ∷ (y ∷ rest)) m =
@@ -111,12 +111,8 @@ module _ (roms : Roms) (ram : List ℕ) (s : State) (xs ys : List ℕ) where
   abbrev whole : Ended
   whole = runOf roms ram s (xs ++ ys)
 
-  not-begun : (zs : List ℕ) → (lentOf roms ram s ≡ 0 → ⊥) → runOf roms ram s zs ≡ ended (begun ram s) (lentOf roms ram s)
-  unfolding runOf pick
-  not-begun zs n = rw (ne-eqb _ _ n)
-
   cut-refused : (lentOf roms ram s ≡ 0 → ⊥) → Joined part rest whole
-  cut-refused n = rw (not-begun xs n) (rw (not-begun (xs ++ ys) n) (record { number = refl; state = refl; ram = refl; used = refl; cycles = refl; events = refl }))
+  cut-refused n = rw (not-begun roms ram s xs n) (rw (not-begun roms ram s (xs ++ ys) n) (record { number = refl; state = refl; ram = refl; used = refl; cycles = refl; events = refl }))
 
   cut-lent : lentOf roms ram s ≡ 0 → HistoryOf roms ram s xs (runOver roms xs (begun ram s)) → Joined part rest whole
   cut-lent z h =

@@ -24,9 +24,9 @@ use Rattle.chip.specs.Step.{movedOf, stepOf, ramAfter}
 use Rattle.chip.proofs.Answering.{left-tf, left-request, call-law, within-3}
 use Rattle.chip.proofs.Cycles.{at-start, count-law, cycle-law}
 use Rattle.chip.proofs.Exactly.{admitted-stands}
-use Rattle.chip.proofs.Laws.{still-stands}
 use Rattle.chip.proofs.Linking.{over-through, run-over}
 use Rattle.chip.proofs.Overflows.{overflow-law, calm-law}
+use Rattle.chip.proofs.Permitted.{still-stands}
 use Rattle.demands.proofs.Parts.{begins-undisturbed, begins-reads, begins-cycle, step-with}
 use Rattle.demands.proofs.Starting.{strt-t}
 

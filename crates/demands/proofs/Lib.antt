@@ -2,6 +2,7 @@ pub mod Bench
 pub mod Cutting
 pub mod Demand1
 pub mod Demand3
+pub mod Each
 pub mod Far
 pub mod Once
 pub mod Outside
@@ -11,3 +12,4 @@ pub mod Starting
 pub mod Story
 pub mod TableBytes
 pub mod Tables
+pub mod Tested

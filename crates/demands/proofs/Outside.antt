@@ -2,7 +2,7 @@
 -- counts.
 -- Assumes nothing.
 use Prim.Native.Nat.{ℕ, _≤_, _<_}
-use mathlib.Core.Bool.{Bool, true, false, false≢true}
+use mathlib.Core.Bool.{Bool, true, false}
 use mathlib.Core.List.{List, [], _∷_}
 use mathlib.Core.Path.{_≡_, refl, sym, ap, _∙_}
 use native.Mathlib.Omega.{arith}
@@ -20,14 +20,14 @@ use Rattle.machine.specs.Pins.{eaPin, isHigh}
 use Rattle.machine.specs.Rom.{Roms, both, alone, visible, seenBy}
 use Rattle.machine.specs.State.{runningAt}
 use Rattle.machine.specs.declared.State.{State}
-use Rattle.machine.specs.declared.rom.Byte.{Byte}
-use Rattle.machine.proofs.Seeing.{from-inside, visible-lacks, visible-byte}
+use Rattle.machine.proofs.Seeing.{inside-lacks, inside-byte}
 use Rattle.chip.specs.Admission.{programAllowed, outsideAllowed, lentNumber, lentOf, admission}
 use Rattle.chip.specs.Outside.{bytesTaken, outsideAmong, fromOutside}
 use Rattle.chip.specs.Refusals.{TableByte, StaysInside}
-use Rattle.chip.specs.Run.{Progress, Ended, begun, gone, ended, turned, runOver, runOf, EachStep}
-use Rattle.chip.specs.Step.{Course, Plan, pcAfter, carriedBy, carried, courseBy, course, planBy, planOf}
+use Rattle.chip.specs.Run.{begun, runOver, runOf, EachStep}
+use Rattle.chip.specs.Step.{Course, pcAfter, carriedBy, carried, courseBy, course, planBy, planOf}
 use Rattle.chip.specs.declared.Turn.the-variants.{CarryOut}
+use Rattle.demands.proofs.Each.{each-step, run-same}
 use Rattle.demands.proofs.Tables.{Same, by-table}
 
 -- ---- the first program alone
@@ -93,11 +93,9 @@ alike-carried p q ram s first second w = rw (w .reading) (go (instructionAt q (s
 module _ (roms : Roms) (s : State) (first : ℕ) (w : StaysInside roms s first) where
   there : (a : ℕ) → a < length (roms .inside) → Same (seenBy roms first .bytes) (roms .inside) a
   there a l =
-      let f = from-inside (roms .inside) (roms .outside) (isHigh eaPin first) a (rw (w .ea-low)) l in
       record {
-        lacking =
-            visible-lacks (roms .inside) (roms .outside) (isHigh eaPin first) a ∙ ap (λ (b : Byte). b .lacking) (sym f) ∙ sym (lt-leb _ _ l);
-        byte = visible-byte (roms .inside) (roms .outside) (isHigh eaPin first) a ∙ ap (λ (b : Byte). b .value) (sym f);
+        lacking = inside-lacks (roms .inside) (roms .outside) (isHigh eaPin first) a (w .ea-low) l ∙ sym (lt-leb _ _ l);
+        byte = inside-byte (roms .inside) (roms .outside) (isHigh eaPin first) a (w .ea-low) l;
       }
 
   -- What the step carries out is what the reader's definition reads there.
@@ -171,71 +169,6 @@ outside-step set i j outside ram s first second p q high =
     carries = unfold visible pick in rw high
 
 -- ---- a run
--- Runs of which no step tells the one from the other are the same.
-turn-same :
-    (p : Plan) (m : Progress) (one one' two two' : Progress → Ended)
-    → (eqb (p .number) 0 ≡ true → pick (eqb (p .used) 1) one two (gone m p) ≡ pick (eqb (p .used) 1) one' two' (gone m p))
-    → turned p m one two ≡ turned p m one' two'
-unfolding pick
-turn-same p m one one' two two' f = go (eqb (p .number) 0) f
-  where
-    go :
-        (b : Bool) → (b ≡ true → pick (eqb (p .used) 1) one two (gone m p) ≡ pick (eqb (p .used) 1) one' two' (gone m p))
-        → pick b (pick (eqb (p .used) 1) one two (gone m p)) (ended m (p .number)) ≡ pick b (pick (eqb (p .used) 1) one' two' (gone m p)) (ended m (p .number))
-    go true f = f refl
-    go false f = refl
-
-while : {A : Type 0} (b : Bool) → b ≡ true → pick b A (Unit {0}) → A
-unfolding pick
-while true e v = v
-while false e v = absurd (false≢true e)
-
-module _ (r q : Roms) where
-  abbrev Agrees : State → ℕ → Type 0
-  Agrees s x = (ram : List ℕ) (y : ℕ) → planOf r ram s x y ≡ planOf q ram s x y
-
-  run-same : (xs : List ℕ) (m : Progress) → EachStep Agrees r xs m → runOver r xs m ≡ runOver q xs m
-  unfolding runOver EachStep pick
-  run-same [] m w = refl
-  run-same (x ∷ []) m w = refl
-  run-same (x ∷ (y ∷ rest)) m w =
-      turn-same p m (runOver r (y ∷ rest)) (runOver q (y ∷ rest)) (runOver r rest) (runOver q rest)
-      (λ a. onward (eqb (p .used) 1) (while (eqb (p .number) 0) a (w .1)) (λ k v. run-same (y ∷ rest) k v) (λ k v. run-same rest k v))
-      ∙ ap (λ (p : Plan). turned p m (runOver q (y ∷ rest)) (runOver q rest)) (w .0 (m .ram) y)
-    where
-      p : Plan
-      p = planOf r (m .ram) (m .state) x y
-
-      onward :
-          (b : Bool) → pick b (EachStep Agrees r (y ∷ rest)) (EachStep Agrees r rest) (gone m p)
-          → ((k : Progress) → EachStep Agrees r (y ∷ rest) k → runOver r (y ∷ rest) k ≡ runOver q (y ∷ rest) k)
-          → ((k : Progress) → EachStep Agrees r rest k → runOver r rest k ≡ runOver q rest k)
-          → pick b (runOver r (y ∷ rest)) (runOver r rest) (gone m p) ≡ pick b (runOver q (y ∷ rest)) (runOver q rest) (gone m p)
-      onward true v f g = f _ v
-      onward false v f g = g _ v
-
--- What holds of each step may be weakened.
-each-step :
-    {P Q : State → ℕ → Type 0} (roms : Roms) → ((s : State) (x : ℕ) → P s x → Q s x) → (xs : List ℕ) (m : Progress) → EachStep P roms xs m
-    → EachStep Q roms xs m
-unfolding EachStep pick
-each-step roms f [] m w = tt
-each-step roms f (x ∷ []) m w = tt
-each-step {P} {Q} roms f (x ∷ (y ∷ rest)) m w =
-    (f _ _ (w .0), go (eqb (p .number) 0) (eqb (p .used) 1) (w .1) (λ k v. each-step roms f (y ∷ rest) k v) (λ k v. each-step roms f rest k v))
-  where
-    p : Plan
-    p = planOf roms (m .ram) (m .state) x y
-
-    go :
-        (a b : Bool) → pick a (pick b (EachStep P roms (y ∷ rest)) (EachStep P roms rest) (gone m p)) (Unit {0})
-        → ((k : Progress) → EachStep P roms (y ∷ rest) k → EachStep Q roms (y ∷ rest) k)
-        → ((k : Progress) → EachStep P roms rest k → EachStep Q roms rest k)
-        → pick a (pick b (EachStep Q roms (y ∷ rest)) (EachStep Q roms rest) (gone m p)) (Unit {0})
-    go true true v g h = g _ v
-    go true false v g h = h _ v
-    go false b v g h = tt
-
 run-of-same : (r q : Roms) (ram : List ℕ) (s : State) (samples : List ℕ) → lentOf r ram s ≡ lentOf q ram s → runOver r samples (begun ram s) ≡ runOver q samples (begun ram s) → runOf r ram s samples ≡ runOf q ram s samples
 unfolding runOf
 run-of-same r q ram s samples lent over = rw (lent, over)
@@ -243,10 +176,10 @@ run-of-same r q ram s samples lent over = rw (lent, over)
 -- With EA low, a program that never leaves the chip's own memory runs the same whatever second program is lent, or none.
 pub never-leaves :
     (roms : Roms) (ram : List ℕ) (s : State) (samples : List ℕ) → outsideAllowed (length (roms .outside)) ≡ true
-    → EachStep (StaysInside roms) roms samples (begun ram s) → runOf roms ram s samples ≡ runOf (alone (roms .set) (roms .inside)) ram s samples
+    → EachStep (λ m t x y. StaysInside roms t x) roms samples (begun ram s) → runOf roms ram s samples ≡ runOf (alone (roms .set) (roms .inside)) ram s samples
 never-leaves roms ram s samples allowed w =
     run-of-same roms none ram s samples (unfold lentNumber pick in rw allowed)
-    (run-same roms none samples (begun ram s) (each-step roms (λ t x v m y. inside-step roms m t x y allowed v) samples (begun ram s) w))
+    (run-same roms (planOf none) samples (begun ram s) (each-step roms (λ m t x y v. inside-step roms m t x y allowed v) samples (begun ram s) w))
   where
     none : Roms
     none = alone (roms .set) (roms .inside)
@@ -254,9 +187,9 @@ never-leaves roms ram s samples allowed w =
 -- With EA high at every step, as for a part without memory of its own, the first program's bytes don't matter.
 pub first-unseen :
     (set : Set) (i j outside ram : List ℕ) (s : State) (samples : List ℕ) → programAllowed (length i) ≡ true → programAllowed (length j) ≡ true
-    → EachStep (λ t x. isHigh eaPin x ≡ true) (both set i outside) samples (begun ram s)
+    → EachStep (λ m t x y. isHigh eaPin x ≡ true) (both set i outside) samples (begun ram s)
     → runOf (both set i outside) ram s samples ≡ runOf (both set j outside) ram s samples
 first-unseen set i j outside ram s samples p q w =
     run-of-same (both set i outside) (both set j outside) ram s samples (unfold lentNumber pick in rw (p, q))
-    (run-same (both set i outside) (both set j outside) samples (begun ram s)
-    (each-step (both set i outside) (λ t x v m y. outside-step set i j outside m t x y p q v) samples (begun ram s) w))
+    (run-same (both set i outside) (planOf (both set j outside)) samples (begun ram s)
+    (each-step (both set i outside) (λ m t x y v. outside-step set i j outside m t x y p q v) samples (begun ram s) w))

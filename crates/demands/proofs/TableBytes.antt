@@ -7,7 +7,7 @@ use mathlib.Core.Path.{_≡_, refl, _∙_}
 use native.Mathlib.Omega.{arith}
 use lib.Dec.{eqb}
 use lib.ListN.{length}
-use borrow.Author.Tests.{eqb-true, leb-true, leb-false, le-leb, lt-leb}
+use borrow.Author.Tests.{eqb-true, leb-true, leb-false, le-leb}
 use Rattle.isa.specs.Choice.{pick}
 use Rattle.isa.specs.Numbers.{given}
 use Rattle.isa.specs.Pages.{movpAddress, jmppAddress, movp3Address}
@@ -21,7 +21,7 @@ use Rattle.machine.specs.Pins.{eaPin, isHigh}
 use Rattle.machine.specs.Rom.{Roms, alone, fetched, seenBy, visible}
 use Rattle.machine.specs.State.{withPc}
 use Rattle.machine.specs.declared.State.{State}
-use Rattle.machine.proofs.Seeing.{visible-lacks, visible-byte}
+use Rattle.machine.proofs.Seeing.{inside-lacks, inside-byte}
 use Rattle.effects.specs.Effect.{written}
 use Rattle.execute.specs.Execute.{executed}
 use Rattle.chip.specs.Admission.{programAllowed, lentNumber, admission}
@@ -75,10 +75,10 @@ last-movp-5 roms ram s first second f n o e b low =
     none = omega arith
 
     here : lacks (seenBy roms first .bytes) (s .pc) ≡ false
-    here = visible-lacks (roms .inside) (roms .outside) (isHigh eaPin first) (s .pc) ∙ (unfold fetched pick in rw (low, lt-leb _ _ there) (lt-leb _ _ there))
+    here = inside-lacks (roms .inside) (roms .outside) (isHigh eaPin first) (s .pc) low there
 
     code : byteAt (seenBy roms first .bytes) (s .pc) ≡ 0xA3
-    code = visible-byte (roms .inside) (roms .outside) (isHigh eaPin first) (s .pc) ∙ (unfold fetched pick in rw (low, lt-leb _ _ there) b)
+    code = inside-byte (roms .inside) (roms .outside) (isHigh eaPin first) (s .pc) low there ∙ b
 
     gone : lacking roms first (movpAddress (s .pc) (s .a)) ≡ true
     gone = unfold fetched pick in rw (low, le-leb _ _ past, le-leb _ _ none)

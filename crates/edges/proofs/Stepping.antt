@@ -28,7 +28,7 @@ use Rattle.chip.specs.Admission.{programAllowed, outsideAllowed, ramAllowed, sa
 use Rattle.chip.specs.Cases.{Case, seen}
 use Rattle.chip.specs.Outside.{fromOutside}
 use Rattle.chip.specs.Refusals.{Fetches}
-use Rattle.chip.specs.Run.{Ended, begun, ended, turned, runOver, runOf}
+use Rattle.chip.specs.Run.{Ended, begun, ended, turned, runBy, runOf}
 use Rattle.chip.specs.Step.{Course, externalCalls, timerCalls, declined, accepted, done, carriedBy, carried, withOutside, ticked, settled, planBy, planOf}
 use Rattle.chip.proofs.Exactly.{samples-decide, comes-to}
 use Rattle.edges.specs.Steps.{edgeCases, seenIn, Holds, In, here, later}
@@ -67,7 +67,7 @@ untold c n x = go (eqb (x .number) 0) refl
 one-step :
     (roms : Roms) (ram : List ℕ) (s : State) → lentOf roms ram s ≡ 0 → (samples : List ℕ) → length samples ≡ 2
     → runOf roms ram s samples ≡ turned (planOf roms ram s (getD samples 0 0) (getD samples 1 0)) (begun ram s) (λ m. ended m 0) (λ m. ended m 0)
-unfolding runOf runOver pick
+unfolding runOf runBy pick
 one-step roms ram s lent [] n = absurd (omega (arith, n))
 one-step roms ram s lent (x ∷ []) n = absurd (omega (arith, n))
 one-step roms ram s lent (x ∷ (y ∷ [])) n = rw lent

@@ -88,6 +88,17 @@ module _ (inside outside : List ℕ) where
           let l : a < length inside + (length outside - length inside) = omega arith in
           rw (h, total) (lt-leb _ _ l ∙ sym h)
 
+  -- With EA low a byte that the chip has is the one that is seen.
+  module _ (ea : Bool) (a : ℕ) (low : ea ≡ false) (there : a < length inside) where
+    is-inside : record { memory = Internal; lacking = false; value = byteAt inside a } ≡ fetched inside outside ea a
+    is-inside = from-inside ea a (rw low) there
+
+    pub inside-lacks : lacks (visible inside outside ea) a ≡ false
+    inside-lacks = visible-lacks ea a ∙ ap (λ (x : Byte). x .lacking) (sym is-inside)
+
+    pub inside-byte : byteAt (visible inside outside ea) a ≡ byteAt inside a
+    inside-byte = visible-byte ea a ∙ ap (λ (x : Byte). x .value) (sym is-inside)
+
   -- The same of what a call of `fetch` answered.
   module _ (ea : Bool) (a : ℕ) (r : Byte) (e : r ≡ fetched inside outside ea a) where
     pub found-lacking : {b : Bool} → r .lacking ≡ b → lacks (visible inside outside ea) a ≡ b

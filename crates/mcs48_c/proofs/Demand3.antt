@@ -31,7 +31,7 @@ use Rattle.chip.proofs.Answering.{step-enabled, left-tf, left-request, call-law
 use Rattle.chip.proofs.Cycles.{Running, one-or-two, at-start}
 use Rattle.demands.proofs.Demand3.{count-after, tf-left, request-left, called-in-time}
 use Rattle.chip.proofs.Exactly.{refused-unchanged, allowed, lent-refuses}
-use Rattle.chip.proofs.Linking.{sample-a-cycle, run-history}
+use Rattle.chip.proofs.Linking.{sample-a-cycle, run-history, not-begun}
 use Rattle.chip.proofs.Runs.{run-short}
 use Rattle.mcs48_c.specs.Bytes.{countingOf, bytesOf, formed, stateIn, stateOf, holding}
 use Rattle.mcs48_c.specs.Calls.{stepFrom, runFrom, afterStep, afterRun}
@@ -109,11 +109,6 @@ module _ (roms : Roms) (ram bytes : List ℕ) where
       ran : Ended
       ran = runOf roms ram (stateOf bytes) samples
 
-      not-begun :
-          (lentOf roms ram (stateOf bytes) ≡ 0 → ⊥)
-          → ran ≡ ended (begun ram (stateOf bytes)) (lentOf roms ram (stateOf bytes))
-      not-begun n = unfold runOf pick in rw (ne-eqb _ _ n)
-
       go :
           (x y : Bool) → eqb (lentOf roms ram (stateOf bytes)) 0 ≡ x → eqb (ran .ran .used) 0 ≡ y
           → stateOf (afterRun bytes (ran .ran)) ≡ ran .ran .state
@@ -124,7 +119,7 @@ module _ (roms : Roms) (ram bytes : List ℕ) where
           (ap (λ (r : Ended). r .ran .state) (h .is)
           ∙ unmoved (h .steps) (sym (ap (λ (r : Ended). r .ran .used) (h .is)) ∙ eqb-true _ _ f)))
       go true false e f = ap stateOf (rw f (lent-held _ (eqb-true _ _ e))) ∙ state-back _
-      go false y e f = rw (not-begun (eqb-false _ _ e))
+      go false y e f = rw (not-begun roms ram (stateOf bytes) samples (eqb-false _ _ e))
 
 -- ---- so do those that a call from C leaves, whatever its number names: under 25 the bytes stay, and the state is theirs
 pub c-step-state :

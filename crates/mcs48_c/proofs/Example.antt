@@ -14,7 +14,7 @@ use Rattle.execute.specs.Execute.{executed}
 use Rattle.chip.specs.Admission.{lentNumber, admission}
 use Rattle.chip.specs.Cases.{times, idle, blank}
 use Rattle.chip.specs.Outside.{fromOutside}
-use Rattle.chip.specs.Run.{runOver, runOf}
+use Rattle.chip.specs.Run.{runBy, runOf}
 use Rattle.chip.specs.Step.{declined, accepted, waits, done, carried, course, ticked, settled, planBy}
 use Rattle.mcs48_c.specs.Bytes.{countingOf, modeOf, bytesOf, stateOf, holding}
 use Rattle.mcs48_c.specs.Calls.{stepFrom, runFrom, readFrom, totalled, totalsAfter}
@@ -59,7 +59,7 @@ nec-halts = refl
 
 -- The same as one run, a sample being left: 4 samples used and 2 machine cycles spent.
 nec-run : totalsAfter (0 ∷ 0 ∷ []) (runFrom 1 program [] blank (bytesOf powerUp) (idle ∷ idle ∷ low ∷ idle ∷ idle ∷ []) .ran) ≡ 4 ∷ 2 ∷ []
-unfolding totalled runOf runOver setOf stateOf countingOf modeOf bytesOf planBy settled ticked course carried fromOutside done accepted waits written admission lentNumber executed visible instructionAt decodedAt entryOf kindOf pick
+unfolding totalled runOf runBy setOf stateOf countingOf modeOf bytesOf planBy settled ticked course carried fromOutside done accepted waits written admission lentNumber executed visible instructionAt decodedAt entryOf kindOf pick
 nec-run = refl
 
 -- Under Intel 01 is no code, 4, and a halted machine no state, 3; and there is no set 2, which is 25. The state's bytes stay.

@@ -1,3 +1,4 @@
+pub mod AtStart
 pub mod Copying
 pub mod Demand3
 pub mod Example

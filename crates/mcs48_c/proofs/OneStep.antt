@@ -14,7 +14,7 @@ use Rattle.machine.specs.declared.State.{State}
 use Rattle.effects.specs.Effect.{Nothing, written}
 use Rattle.effects.specs.declared.Event.the-variants.{Quiet}
 use Rattle.chip.specs.Admission.{lentOf, admission}
-use Rattle.chip.specs.Run.{Ended, begun, firstShown, runOver, runOf, unshown}
+use Rattle.chip.specs.Run.{Ended, begun, firstShown, runBy, runOver, runOf, unshown}
 use Rattle.chip.specs.Step.{Plan, declined, course, planBy, planOf, refusedBy, reportOf, stepOf, ramAfter}
 use Rattle.chip.specs.declared.Outcome.{Outcome}
 use Rattle.chip.specs.declared.Ran.{Ran}
@@ -54,7 +54,7 @@ module _ (roms : Roms) (ram : List ℕ) (s : State) (x y : ℕ) where
 
   -- The step that a run begins with ends it: accepted, or refused.
   goes : plan .number ≡ 0 → runOver roms (x ∷ y ∷ []) (begun ram s) ≡ asRun step (ramAfter roms ram s x y)
-  unfolding runOver pick
+  unfolding runBy pick
   goes n = go (eqb (plan .used) 1) refl
     where
       go : (b : Bool) → eqb (plan .used) 1 ≡ b → runOver roms (x ∷ y ∷ []) (begun ram s) ≡ asRun step (ramAfter roms ram s x y)
@@ -62,7 +62,7 @@ module _ (roms : Roms) (ram : List ℕ) (s : State) (x y : ℕ) where
       go false e = rw (n, e, zero-add, zero-add)
 
   halts : (plan .number ≡ 0 → ⊥) → runOver roms (x ∷ y ∷ []) (begun ram s) ≡ asRun step (ramAfter roms ram s x y)
-  unfolding runOver pick
+  unfolding runBy pick
   halts n =
       let u = unchanged n in
       rw (ne-eqb _ _ n, u .state, u .cycles, u .used, u .memory)

@@ -25,10 +25,10 @@ use Rattle.chip.specs.Cases.{seen, blank, idle}
 use Rattle.chip.specs.History.{planAt, after}
 use Rattle.chip.specs.Outside.{fromOutside}
 use Rattle.chip.specs.Refusals.{Fetches}
-use Rattle.chip.specs.Run.{Progress, begun, runOver, runOf}
+use Rattle.chip.specs.Run.{Progress, begun, runBy, runOf}
 use Rattle.chip.specs.Step.{Plan, declined, accepted, done, carried, course, ticked, settled, planBy}
 use Rattle.chip.proofs.Exactly.{samples-decide}
-use Rattle.chip.proofs.Laws.{still-stands}
+use Rattle.chip.proofs.Permitted.{still-stands}
 use Rattle.rotates.specs.Example.{start, fourRl, oneSwap, filledSwap, runs, stepped, reached}
 use Rattle.rotates.specs.Strings.{Fetching, none, step, samplesOf, levels, SeenAt, Replaced, SameWay}
 use Rattle.rotates.proofs.Filling.{same-way}
@@ -36,7 +36,7 @@ use Rattle.rotates.proofs.Seen.{stands-inside, inside-seen}
 use Rattle.rotates.proofs.Stepping.{turnedStep, meant, step-over, replaced}
 
 pub runs-seen : (set : Set) → map (seen set) runs ≡ map (λ c. c .want) runs
-unfolding runOf runOver planBy settled ticked course carried done accepted declined written admission lentNumber executed instructionAt decodedAt visible entryOf kindOf pick
+unfolding runOf runBy planBy settled ticked course carried done accepted declined written admission lentNumber executed instructionAt decodedAt visible entryOf kindOf pick
 runs-seen Intel = refl
 runs-seen Nec = refl
 

@@ -4,25 +4,21 @@
 use Prim.Native.Nat.{ℕ}
 use mathlib.Core.Bool.{Bool, true, false}
 use mathlib.Core.List.{List, [], _∷_, map}
-use mathlib.Core.Path.{_≡_, refl, sym, ap, _∙_}
+use mathlib.Core.Path.{_≡_, refl, _∙_}
 use borrow.Author.Tests.{leb-false}
 use Rattle.isa.specs.Choice.{pick}
 use Rattle.isa.specs.Reading.{nextPc}
 use Rattle.machine.specs.Pins.{eaPin, isHigh}
 use Rattle.machine.specs.Rom.{Roms, visible}
-use Rattle.machine.specs.declared.rom.Byte.{Byte}
-use Rattle.machine.proofs.Seeing.{from-inside, visible-lacks, visible-byte}
+use Rattle.machine.proofs.Seeing.{inside-lacks, inside-byte}
 use Rattle.writer.specs.Standing.{StandsAt}
 use Rattle.rotates.specs.Strings.{Samples, SeenAt}
 
 pub stands-inside : (inside outside : List ℕ) (a : ℕ) (bytes : List ℕ) → StandsAt inside a bytes → StandsAt (visible inside outside false) a bytes
 stands-inside inside outside a [] w = tt
 stands-inside inside outside a (b ∷ bs) w =
-    let f = sym (from-inside inside outside false a refl (leb-false _ _ (w .0))) in (
-      visible-lacks inside outside false a ∙ ap (λ (x : Byte). x .lacking) f,
-      visible-byte inside outside false a ∙ ap (λ (x : Byte). x .value) f ∙ w .1,
-      stands-inside inside outside (nextPc a) bs (w .2),
-    )
+    let l = leb-false _ _ (w .0) in
+    (inside-lacks inside outside false a refl l, inside-byte inside outside false a refl l ∙ w .1, stands-inside inside outside (nextPc a) bs (w .2))
 
 module _ (roms : Roms) where
   pub level-seen :

@@ -87,7 +87,8 @@ pub fn step(
     }
 }
 
-// Steps while two samples remain, or until a refusal.
+// Steps while two samples remain, or until a refusal. None of them is asked for 1, 2 and 3 again: an accepted step leaves no state that 3
+// would refuse (the law `accepted-permitted`).
 fn run_on(
     set: Set,
     table: &[u16; 256],

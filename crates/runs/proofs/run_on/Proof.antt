@@ -13,7 +13,7 @@ use Rattle.machine.specs.declared.State.{State}
 use Rattle.effects.specs.declared.Event.{Event}
 use Rattle.chip.specs.Admission.{lentOf}
 use Rattle.chip.specs.Run.{Progress, Ended, begun, runOver}
-use Rattle.chip.proofs.Laws.{still-stands}
+use Rattle.chip.proofs.Permitted.{still-stands}
 use Rattle.chip.proofs.Runs.{next, run-short, spent, went, halted}
 use Rattle.runs.proofs.run_on.Statement.{statement}
 use Rattle.runs.proofs.run_on.Tie as tie
