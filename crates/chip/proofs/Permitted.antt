@@ -27,7 +27,7 @@ use Rattle.machine.specs.declared.Count.{Count}
 use Rattle.machine.specs.declared.Counting.{Counting}
 use Rattle.machine.specs.declared.Counting.the-variants.{Stopped, Timer, Counter}
 use Rattle.machine.specs.declared.Mode.{Mode}
-use Rattle.machine.specs.declared.Mode.the-variants.{Running, Released}
+use Rattle.machine.specs.declared.Mode.the-variants.{Running}
 use Rattle.machine.specs.declared.State.{State}
 use Rattle.effects.specs.Effect.{Write, Nothing, Byte, Pair, Effect, written}
 use Rattle.flow.specs.Stack.{pushed}
@@ -93,7 +93,7 @@ module _ (set : Set) (s : State) (h : Fits set s) where
 
   released-fits : (first : ℕ) → isWaiting (s .mode) ≡ true → Fits set (released s first)
   released-fits first w =
-      either (Fits set) _ _ _ (λ l. record { sizes = h .sizes; mode = waiting-allowed set (s .mode) Released w (h .mode) }) (λ l. h)
+      either (Fits set) _ _ _ (λ l. record { sizes = h .sizes; mode = waiting-allowed set (s .mode) _ w (h .mode) }) (λ l. h)
 
   called-fits : (vector : ℕ) → vector < 4096 → Fits set (called s vector .state)
   unfolding called
