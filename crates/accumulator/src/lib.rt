@@ -1,3 +1,4 @@
+#![tactic(auto)]
 // What is done to A, and to C and AC.
 ghost use Rattle.std.specs.Prelude.{◌≡◌, ◌≤◌};
 ghost use Rattle.accumulator.specs.Accumulator.{added, operated, with_ac, decimal_adjusted, changed};

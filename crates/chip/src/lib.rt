@@ -1,3 +1,4 @@
+#![tactic(auto)]
 // The chip: one step, but for what is asked before it and told after it. crates/runs has the step and the run as a caller has them.
 ghost use Rattle.std.specs.Prelude.{◌≡◌, ◌≤◌};
 ghost use Rattle.isa.specs.Table.{packed_rows};
@@ -15,7 +16,7 @@ pub mod acting; // reset, interrupt calls, one instruction
 mod fetching; // the bytes at PC
 
 // What is fetched at PC. `number` is 0, or the refusal's number and all else is 0.
-#[derive(Drop)]
+#[derive(Clone, Copy)]
 pub struct Fetch {
     pub number: u8,
     pub kind: u8,
@@ -27,7 +28,7 @@ pub struct Fetch {
 }
 
 // What a step's turn is. Each goes before those below it.
-#[derive(Drop)]
+#[derive(Clone, Copy)]
 pub enum Turn {
     // a sample has one of bits 29 to 31
     Refuse,
@@ -41,7 +42,7 @@ pub enum Turn {
 }
 
 // What a step does before its cycles are counted, besides writing to RAM, which it does in place.
-#[derive(Drop)]
+#[derive(Clone, Copy)]
 pub struct Course {
     pub number: u8,
     pub state: State,
@@ -52,7 +53,7 @@ pub struct Course {
 }
 
 // What a step does to the machine: the refusal's number or 0, the state, the machine cycles spent and the samples used.
-#[derive(Drop)]
+#[derive(Clone, Copy)]
 pub struct Moved {
     pub number: u8,
     pub state: State,
@@ -61,14 +62,14 @@ pub struct Moved {
 }
 
 // What a step shows outside: its event, and how many of its bytes came from the second program.
-#[derive(Drop)]
+#[derive(Clone, Copy)]
 pub struct Report {
     pub event: Event,
     pub outside: u8,
 }
 
 // What a step answers: all of both.
-#[derive(Drop)]
+#[derive(Clone, Copy)]
 pub struct Outcome {
     pub number: u8,
     pub state: State,
@@ -79,7 +80,7 @@ pub struct Outcome {
 }
 
 // What a run answers: the number that ended it, 0 if samples ran out, the state, the samples used and the machine cycles spent.
-#[derive(Drop)]
+#[derive(Clone, Copy)]
 pub struct Ran {
     pub number: u8,
     pub state: State,
@@ -88,7 +89,7 @@ pub struct Ran {
 }
 
 // A run, and what its first step showed, if that was asked for.
-#[derive(Drop)]
+#[derive(Clone, Copy)]
 pub struct Played {
     pub ran: Ran,
     pub shown: Report,

@@ -1,3 +1,4 @@
+#![tactic(auto)]
 // What an instruction answers, and what is done to registers, RAM and ports.
 ghost use Rattle.std.specs.Prelude.{◌≡◌, ◌<◌, length};
 ghost use Rattle.effects.specs.Effect.{answer_of, written};
@@ -11,7 +12,7 @@ pub mod moves; // XCH, XCHD, INC and DEC of a cell
 pub mod ports; // ports, BUS, the expander
 
 // What is seen from outside, besides the latches.
-#[derive(Drop)]
+#[derive(Clone, Copy)]
 pub enum Event {
     Quiet,
     // MOVX A,@Rr: the address
@@ -23,7 +24,7 @@ pub enum Event {
 }
 
 // What an instruction does besides writing to RAM, which it does in place. Its event is asked for apart, by a single step alone.
-#[derive(Drop)]
+#[derive(Clone, Copy)]
 pub struct Effect {
     // 5 if the memory that must answer lacks a table byte, else 0
     pub number: u8,

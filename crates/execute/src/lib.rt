@@ -1,3 +1,4 @@
+#![tactic(auto)]
 // What each of the 98 instructions does to the state, to RAM and to the world outside.
 ghost use Rattle.std.specs.Prelude.{◌≡◌, ◌≤◌, length};
 ghost use Rattle.machine.specs.Pins.{ea_pin, is_high};

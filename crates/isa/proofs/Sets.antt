@@ -83,6 +83,7 @@ made-within Intel b d (standby w) =
     false≢true
     (sym (intel-rows (operand_in (row_of (kind_of Intel b)).place b) d (kind_of Intel b) (kind-below 1 (rows_of Intel) b (omega arith)))
     ∙ standby-told _ w)
+made-within Nec b d w = elim w [ ]
 
 -- What is read in a set the set is not without.
 pub read-within :

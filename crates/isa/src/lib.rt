@@ -1,3 +1,4 @@
+#![tactic(auto)]
 // The instruction sets of the MCS-48 family: Intel's 96 instructions and NEC's 98, the table of the 256 codes, and the reader.
 ghost use Rattle.std.specs.Prelude.{◌≡◌};
 ghost use Rattle.isa.specs.Numbers.{number_of};
@@ -11,7 +12,7 @@ pub mod table; // length, cycles and kind of each code
 pub const PROGRAM_LIMIT: usize = 4096;
 
 // Why a call is refused, in the whole product; specs/Numbers.antt gives each its number.
-#[derive(Drop)]
+#[derive(Clone, Copy)]
 pub enum Refusal {
     ProgramLength,
     RamLength,
@@ -25,21 +26,21 @@ pub enum Refusal {
 }
 
 // Whose instruction set a program is written in: Intel's, or that of NEC's µPD80C49H, which adds HALT and STOP.
-#[derive(Drop)]
+#[derive(Clone, Copy)]
 pub enum Set {
     Intel,
     Nec,
 }
 
 // A cell of RAM: Rr of the bank in use, or @Rr, the cell whose address R0 or R1 holds.
-#[derive(Drop)]
+#[derive(Clone, Copy)]
 pub enum Cell {
     Register(u8),
     Indirect(u8),
 }
 
 // What an instruction takes into A: Rr, @Rr or #data. It is flat, without a Cell in it, for speed: docs/PERFORMANCE.md.
-#[derive(Drop)]
+#[derive(Clone, Copy)]
 pub enum Source {
     FromRegister(u8),
     FromIndirect(u8),
@@ -47,7 +48,7 @@ pub enum Source {
 }
 
 // A and a source are joined.
-#[derive(Drop)]
+#[derive(Clone, Copy)]
 pub enum Operation {
     Add,
     Addc,
@@ -57,7 +58,7 @@ pub enum Operation {
 }
 
 // A alone is changed.
-#[derive(Drop)]
+#[derive(Clone, Copy)]
 pub enum Unary {
     CplA,
     ClrA,
@@ -72,7 +73,7 @@ pub enum Unary {
 }
 
 // When a conditional jump is taken.
-#[derive(Drop)]
+#[derive(Clone, Copy)]
 pub enum Condition {
     Jb(u8),
     Jc,
@@ -89,7 +90,7 @@ pub enum Condition {
     Jz,
 }
 
-#[derive(Drop)]
+#[derive(Clone, Copy)]
 pub enum Flag {
     FlagC,
     FlagF0,
@@ -97,21 +98,21 @@ pub enum Flag {
 }
 
 // BUS, or P1 or P2.
-#[derive(Drop)]
+#[derive(Clone, Copy)]
 pub enum Latch {
     Bus,
     Port(u8),
 }
 
 // ANL and ORL on a latch.
-#[derive(Drop)]
+#[derive(Clone, Copy)]
 pub enum Join {
     AnlLatch,
     OrlLatch,
 }
 
 // The moves of a digit to and from the expander's ports P4 to P7: MOVD A,Pp and MOVD Pp,A, ORLD, ANLD.
-#[derive(Drop)]
+#[derive(Clone, Copy)]
 pub enum DigitMove {
     MovdRead,
     MovdWrite,
@@ -120,7 +121,7 @@ pub enum DigitMove {
 }
 
 // What takes no operand and sets something in the machine.
-#[derive(Drop)]
+#[derive(Clone, Copy)]
 pub enum Switch {
     EnI,
     DisI,
@@ -138,7 +139,7 @@ pub enum Switch {
 
 // The 98 instructions by families, under the data sheet's mnemonics; a number is a register, a port, a data byte or an address.
 // JMP and CALL hold 11 bits of an address, a conditional jump the low 8.
-#[derive(Drop)]
+#[derive(Clone, Copy)]
 pub enum Instruction {
     // ADD, ADDC, ANL, ORL, XRL A,..
     Alu(Operation, Source),
@@ -187,7 +188,7 @@ pub enum Instruction {
 }
 
 // What the reader answers.
-#[derive(Drop)]
+#[derive(Clone, Copy)]
 pub enum Decoded {
     // An instruction, and of how many bytes.
     Found(Instruction, u8),

@@ -7,7 +7,7 @@ ghost use Rattle.isa.specs.Table.{packed_rows, unpacked};
 use crate::Set;
 
 // What the table says of a code.
-#[derive(Drop)]
+#[derive(Clone, Copy)]
 pub struct Entry {
     pub bytes: u8,
     pub cycles: u8,

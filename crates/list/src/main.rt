@@ -1,3 +1,4 @@
+#![tactic(auto)]
 // Lists the program on standard input, line by line, by Intel's set: at most 4,096 bytes, or `refused 1`.
 use isa::{PROGRAM_LIMIT, Refusal, Set};
 use libc::{STDIN_FILENO, STDOUT_FILENO};

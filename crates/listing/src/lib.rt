@@ -1,3 +1,4 @@
+#![tactic(auto)]
 // One line of a listing: address, bytes, text, LF.
 ghost use Rattle.std.specs.Prelude.{◌≡◌, [], ◌∷◌, ◌++◌, ◌+◌, ◌*◌, ◌≤◌, ◌<◌, length, take, drop, get_or};
 ghost use Rattle.isa.specs.Reading.{under};
@@ -11,14 +12,14 @@ use isa::{PROGRAM_LIMIT, Refusal, Set};
 pub const LINE_BYTES: usize = 32;
 
 // A line while it is made.
-#[derive(Drop)]
+#[derive(Clone, Copy)]
 pub struct Draft {
     pub bytes: [u8; LINE_BYTES],
     pub len: usize,
 }
 
 // What the routine answers.
-#[derive(Drop)]
+#[derive(Clone, Copy)]
 pub enum Listed {
     // The length of the line, and how many bytes of the program it shows.
     Printed(usize, u8),
@@ -199,7 +200,7 @@ fn copy_line(l: Draft, buffer: &mut [u8]) -> usize
 }
 
 // A line, and how many bytes of the program it shows.
-#[derive(Drop)]
+#[derive(Clone, Copy)]
 pub struct Ready {
     pub draft: Draft,
     pub size: u8,

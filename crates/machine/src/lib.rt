@@ -1,3 +1,4 @@
+#![tactic(auto)]
 // The machine state, what it may hold, and the counting of one machine cycle.
 ghost use Rattle.std.specs.Prelude.{◌≡◌};
 ghost use Rattle.machine.specs.Mode.{is_running, mode_allowed};
@@ -10,7 +11,7 @@ pub mod pins; // the bits of a pin sample
 pub mod rom; // program memory, inside and outside
 
 // "The counter stands still, counts cycles or counts falls of T1: one of the three."
-#[derive(Drop)]
+#[derive(Clone, Copy)]
 pub enum Counting {
     Stopped,
     Timer,
@@ -18,7 +19,7 @@ pub enum Counting {
 }
 
 // Whether the machine runs, is in the data sheet's HALT mode or STOP mode, or was just released from one by INT.
-#[derive(Drop)]
+#[derive(Clone, Copy)]
 pub enum Mode {
     Running,
     HaltMode,
@@ -27,7 +28,7 @@ pub enum Mode {
 }
 
 // The interrupts enabled, the external one and TCNTI, the timer's, and whether one is in service.
-#[derive(Drop)]
+#[derive(Clone, Copy)]
 pub struct Interrupts {
     pub external: bool,
     pub tcnti: bool,
@@ -35,7 +36,7 @@ pub struct Interrupts {
 }
 
 // The latches of P1, P2 and BUS, and whether BUS is driven.
-#[derive(Drop)]
+#[derive(Clone, Copy)]
 pub struct Ports {
     pub p1: u8,
     pub p2: u8,
@@ -44,7 +45,7 @@ pub struct Ports {
 }
 
 // The machine state. Numbers and flags come first and what is nested last: the order matters for speed (docs/PERFORMANCE.md).
-#[derive(Drop)]
+#[derive(Clone, Copy)]
 pub struct State {
     pub mode: Mode,
     pub a: u8,
@@ -67,7 +68,7 @@ pub struct State {
 }
 
 // The part of the state that counting a cycle changes.
-#[derive(Drop)]
+#[derive(Clone, Copy)]
 pub struct Count {
     pub t: u8,
     pub divider: u8,

@@ -3,14 +3,14 @@ ghost use Rattle.std.specs.Prelude.{◌≡◌};
 ghost use Rattle.machine.specs.Rom.{fetched};
 
 // Which of the two must answer a fetch.
-#[derive(Drop)]
+#[derive(Clone, Copy)]
 pub enum Memory {
     Internal,
     External,
 }
 
 // What a fetch finds: the memory that must answer, whether it lacks the byte, and the byte, 0 where it is lacking.
-#[derive(Drop)]
+#[derive(Clone, Copy)]
 pub struct Byte {
     pub memory: Memory,
     pub lacking: bool,

@@ -1,3 +1,4 @@
+#![tactic(auto)]
 // The C interface. include/mcs48.h documents each function for its users.
 ghost use Rattle.std.specs.Prelude.{◌≡◌, length};
 ghost use Rattle.isa.specs.Choice.{pick};
@@ -26,7 +27,7 @@ pub extern "C" fn mcs48_power_up(state: &mut [u8])
 }
 
 // The set that a caller in C names, if there is such a set.
-#[derive(Drop)]
+#[derive(Clone, Copy)]
 pub enum Named {
     Known(Set),
     Unknown,
@@ -98,7 +99,7 @@ pub extern "C" fn mcs48_list_line(set: u32, program: &[u8], address: usize, line
 }
 
 // What is left of a run's answer once its state is in the lent bytes; `shown` is what its first step showed, if that was asked for.
-#[derive(Drop)]
+#[derive(Clone, Copy)]
 pub struct Spent {
     pub number: u8,
     pub used: usize,

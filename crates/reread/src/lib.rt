@@ -1,3 +1,4 @@
+#![tactic(auto)]
 // What is read at an address, written again: the reader and the writer as one function of C, for the comparison with the second emulator.
 // (mcs48_read gives the same without calling them.)
 ghost use Rattle.std.specs.Prelude.{◌≡◌};

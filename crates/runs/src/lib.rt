@@ -1,3 +1,4 @@
+#![tactic(auto)]
 // The step and the run, as a caller has them: 1, 2 and 3 asked before, and what a step shows told besides.
 ghost use Rattle.std.specs.Prelude.{true, ◌≡◌};
 ghost use Rattle.isa.specs.Choice.{pick};

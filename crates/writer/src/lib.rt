@@ -1,3 +1,4 @@
+#![tactic(auto)]
 // The instruction writer: the bytes of an instruction. Its codes stand here and in isa's sheet, and each is proved to be the sheet's.
 ghost use Rattle.std.specs.Prelude.{◌≡◌, [], ◌∷◌, ℕ, ◌+◌, ◌≤◌, ◌<◌};
 ghost use Rattle.isa.specs.Numbers.{given};
@@ -12,7 +13,7 @@ use isa::{
 };
 
 // What the writer answers.
-#[derive(Drop)]
+#[derive(Clone, Copy)]
 pub enum Encoded {
     One(u8),
     Two(u8, u8),

@@ -5,18 +5,12 @@ use mathlib.Core.Path.{refl}
 use Rattle.isa.specs.Choice.{pick}
 use Rattle.isa.specs.Sheet.{kind_of, entry_of}
 use Rattle.isa.specs.Table.{packed_rows}
-use Rattle.isa.proofs.table.opcodes.Statement.{statement}
-use Rattle.isa.proofs.table.opcodes.Tie as tie
+use Rattle.isa.proofs.table.opcodes.Goals as goal
 
-intel : tie.Need-returns
+pub returns-in-Intel : goal.returns-in-Intel
 unfolding packed_rows entry_of kind_of pick
-intel c = rw c.enum_told.given.1 refl
+returns-in-Intel c = rw c.in-Intel.is refl
 
-nec : tie.Need-returns-2
+pub returns-in-Nec : goal.returns-in-Nec
 unfolding packed_rows entry_of kind_of pick
-nec c = rw c.enum-told2.given.1 refl
-
-pub opcodes-spec : {M : Type 1} → statement M
-opcodes-spec =
-    tie.close
-    (tie.spec (λ c. search rules) (λ c. search rules) (λ c. search rules) (λ c. search rules) intel nec)
+returns-in-Nec c = rw c.in-Nec.is refl
