@@ -1,0 +1,15 @@
+-- `writer::coded_high` meets its contract: the test is that of `within`.
+-- Assumes nothing.
+use borrow.Author.Rules.{rules}
+use Prim.Native.Nat.{zero-le}
+use borrow.Author.Tests.{le-leb, lt-leb}
+use Rattle.isa.specs.Choice.{pick}
+use Rattle.writer.proofs.coded_high.Goals as goal
+
+pub returns-then-k-gt7 : goal.returns-then-k-gt7
+unfolding pick
+returns-then-k-gt7 c = simp (le-leb 0 c.args.k zero-le, lt-leb _ _ c.if-k-gt7.true)
+
+pub returns : goal.returns
+unfolding pick
+returns c = simp (le-leb 0 c.args.k zero-le, le-leb _ _ c.if-k-gt7.false)

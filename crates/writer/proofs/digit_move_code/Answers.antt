@@ -1,0 +1,26 @@
+-- `writer::digit_move_code` meets its contract: each arm is the code that the sheet has.
+-- Assumes nothing.
+use borrow.Author.Rules.{rules}
+use mathlib.Core.Path.{refl}
+use Rattle.isa.specs.Choice.{pick}
+use Rattle.isa.specs.Sheet.{kind_of, entry_of}
+use Rattle.isa.specs.declared.DigitMove.TheVariants.{MovdRead, MovdWrite, Orld, Anld}
+use Rattle.isa.specs.declared.Instruction.TheVariants.{Expander}
+use Rattle.writer.proofs.Families.{low-writes}
+use Rattle.writer.proofs.digit_move_code.Goals as goal
+
+pub returns-in-MovdRead : goal.returns-in-MovdRead
+unfolding entry_of kind_of pick
+returns-in-MovdRead c = rw c.in-MovdRead.is (low-writes 0x08 4 7 (λ k. Expander MovdRead k) (λ k h. h) refl refl c.coded_low.ensures)
+
+pub returns-in-MovdWrite : goal.returns-in-MovdWrite
+unfolding entry_of kind_of pick
+returns-in-MovdWrite c = rw c.in-MovdWrite.is (low-writes 0x38 4 7 (λ k. Expander MovdWrite k) (λ k h. h) refl refl c.coded_low-in-MovdWrite.ensures)
+
+pub returns-in-Orld : goal.returns-in-Orld
+unfolding entry_of kind_of pick
+returns-in-Orld c = rw c.in-Orld.is (low-writes 0x88 4 7 (λ k. Expander Orld k) (λ k h. h) refl refl c.coded_low-in-Orld.ensures)
+
+pub returns-in-Anld : goal.returns-in-Anld
+unfolding entry_of kind_of pick
+returns-in-Anld c = rw c.in-Anld.is (low-writes 0x98 4 7 (λ k. Expander Anld k) (λ k h. h) refl refl c.coded_low-in-Anld.ensures)
