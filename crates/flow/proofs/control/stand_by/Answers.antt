@@ -1,6 +1,7 @@
 -- `flow::control::stand_by` meets its contract: INT's level picks the case.
 -- Assumes nothing.
 use borrow.Author.Rules.{rules}
+use borrow.Author.Tests.{ne_eqb}
 use Rattle.isa.specs.Choice.{pick}
 use Rattle.flow.proofs.control.stand_by.Goals as goal
 
@@ -10,4 +11,4 @@ returns-then-low c = rw c.if-low.true
 
 pub returns : goal.returns
 unfolding pick
-returns c = rw (c.with_mode.ensures, c.if-low.false)
+returns c = rw (ne_eqb _ _ c.if-low.false) c.with_mode.ensures

@@ -6,9 +6,6 @@ use Rattle.flow.specs.Stack.{pushed}
 use borrow.Author.Rules.{rules}
 use Rattle.flow.proofs.stack.push.Goals as goal
 
-pub shape_of-ram : goal.shape_of-ram
-shape_of-ram c = c.store-2.auto.0 ∙ c.store.auto.0
-
 pub returns : goal.returns
 unfolding pushed written
 returns c = record { answer = rw (c.quiet_effect.ensures, c.with_core.ensures); memory = rw (c.store-2.ensures, c.store.ensures) }
