@@ -139,8 +139,8 @@ fn carry_out(
     first: u32,
     second: u32,
 ) -> Course
-    requires table_value { table.now ≡ packed_rows set }
-    requires in_bounds { 64 ≤ length ram.old }
+    requires table_held { table.now ≡ packed_rows set }
+    requires room { 64 ≤ length ram.old }
     ensures answer { result ≡ course_answer (carried (seen_by (both set program.now outside.now) first) ram.old s first second) }
     ensures memory { ram.new ≡ written ram.old (carried (seen_by (both set program.now outside.now) first) ram.old s first second).write }
 {
@@ -220,8 +220,8 @@ pub fn course_of(
     first: u32,
     second: u32,
 ) -> Course
-    requires table_value { table.now ≡ packed_rows set }
-    requires s_value { lent_of (both set program.now outside.now) ram.old s ≡ 0 }
+    requires table_held { table.now ≡ packed_rows set }
+    requires admitted { lent_of (both set program.now outside.now) ram.old s ≡ 0 }
     ensures answer { result ≡ course_answer (course (both set program.now outside.now) ram.old s first second) }
     ensures memory { ram.new ≡ written ram.old (course (both set program.now outside.now) ram.old s first second).write }
 {

@@ -147,8 +147,8 @@ pub fn do_step(
     first: u32,
     second: u32,
 ) -> Moved
-    requires table_value { table.now ≡ packed_rows set }
-    requires s_value { lent_of (both set program.now outside.now) ram.old s ≡ 0 }
+    requires table_held { table.now ≡ packed_rows set }
+    requires admitted { lent_of (both set program.now outside.now) ram.old s ≡ 0 }
     ensures answer { result ≡ moved_of (step_of (both set program.now outside.now) ram.old s first second) }
     ensures memory { ram.new ≡ ram_after (both set program.now outside.now) ram.old s first second }
 {

@@ -96,8 +96,8 @@ fn run_on(
     start: State,
     samples: &[u32],
 ) -> Ran
-    requires table_value { table.now ≡ packed_rows set }
-    requires start_value { lent_of (both set program.now outside.now) ram.old start ≡ 0 }
+    requires table_held { table.now ≡ packed_rows set }
+    requires admitted { lent_of (both set program.now outside.now) ram.old start ≡ 0 }
     ensures answer { result ≡ (run_over (both set program.now outside.now) samples.now (begun ram.old start)).ran }
     ensures memory { ram.new ≡ (run_over (both set program.now outside.now) samples.now (begun ram.old start)).ram }
 {
@@ -147,8 +147,8 @@ fn shown_ahead(
     s: State,
     samples: &[u32],
 ) -> Report
-    requires table_value { table.now ≡ packed_rows set }
-    requires s_value { lent_of (both set program.now outside.now) ram.now s ≡ 0 }
+    requires table_held { table.now ≡ packed_rows set }
+    requires admitted { lent_of (both set program.now outside.now) ram.now s ≡ 0 }
     ensures { first_accepted (both set program.now outside.now) ram.now s samples.now ≡ true → result ≡ pick asked (first_shown (both set program.now outside.now) ram.now s samples.now) unshown }
 {
     if !asked {

@@ -101,8 +101,8 @@ fn report_at(
     s: State,
     first: u32,
 ) -> Report
-    requires table_value { table.now ≡ packed_rows set }
-    requires in_bounds { 64 ≤ length ram.now }
+    requires table_held { table.now ≡ packed_rows set }
+    requires room { 64 ≤ length ram.now }
     ensures { (second : ℕ) → Shows (both set program.now outside.now) ram.now s first second result }
 {
     let ea = first / pins::EA % 2 == 1;
@@ -127,8 +127,8 @@ pub fn report_of(
     first: u32,
     second: u32,
 ) -> Report
-    requires table_value { table.now ≡ packed_rows set }
-    requires s_value { lent_of (both set program.now outside.now) ram.now s ≡ 0 }
+    requires table_held { table.now ≡ packed_rows set }
+    requires admitted { lent_of (both set program.now outside.now) ram.now s ≡ 0 }
     ensures { (step_of (both set program.now outside.now) ram.now s first second).number ≡ 0 → result ≡ report_of (step_of (both set program.now outside.now) ram.now s first second) }
 {
     match chip::acting::turn_of(s, first, second) {

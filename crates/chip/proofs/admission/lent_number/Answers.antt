@@ -1,0 +1,26 @@
+-- `chip::admission::lent_number` meets its contract.
+-- Assumes nothing.
+use Rattle.chip.specs.Admission.{lent_number}
+use Rattle.isa.specs.Choice.{pick}
+use borrow.Author.Rules.{rules}
+use Rattle.chip.proofs.admission.lent_number.Goals as goal
+
+pub returns-then-not-long : goal.returns-then-not-long
+unfolding lent_number pick
+returns-then-not-long c = rw (c.number.ensures, c.if-not-long.true)
+
+pub returns-then-not-second : goal.returns-then-not-second
+unfolding lent_number pick
+returns-then-not-second c = rw (c.number-then-not-second.ensures, c.if-not-long.false, c.if-not-second.true)
+
+pub returns-then-not-wide : goal.returns-then-not-wide
+unfolding lent_number pick
+returns-then-not-wide c = rw (c.number-then-not-wide.ensures, c.if-not-long.false, c.if-not-second.false, c.if-not-wide.true)
+
+pub returns-then-not-permitted : goal.returns-then-not-permitted
+unfolding lent_number pick
+returns-then-not-permitted c = rw (c.number-then-not-permitted.ensures, c.if-not-long.false, c.if-not-second.false, c.if-not-wide.false, ← c.is_permitted-permitted.ensures, c.if-not-permitted.true)
+
+pub returns : goal.returns
+unfolding lent_number pick
+returns c = rw (c.if-not-long.false, c.if-not-second.false, c.if-not-wide.false, ← c.is_permitted-permitted.ensures, c.if-not-permitted.false)
