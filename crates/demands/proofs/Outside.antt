@@ -162,8 +162,17 @@ outside-step set i j outside ram s first second p q high =
     plan-same (both set i outside) (both set j outside) ram s first second (unfold lent_number pick in rw (p, q))
     (instruction-same (both set i outside) (both set j outside) ram s first second from carries)
   where
+    sees : (k : List ℕ) → seen_by (both set k outside) first ≡ under set outside
+    sees k = unfold visible pick in rw high refl
+
+    counts : (k : List ℕ) → from_outside (both set k outside) first s ≡ outside_among k true (bytes_taken (under set outside) s.pc s.a)
+    counts k =
+        unfold from_outside in
+        ap (λ (p : Program). outside_among k (is_high ea_pin first) (bytes_taken p s.pc s.a)) (sees k)
+        ∙ ap (λ (ea : Bool). outside_among k ea (bytes_taken (under set outside) s.pc s.a)) high
+
     from : from_outside (both set i outside) first s ≡ from_outside (both set j outside) first s
-    from = unfold from_outside visible pick in rw high (high-count i j (bytes_taken (under set outside) s.pc s.a))
+    from = counts i ∙ high-count i j (bytes_taken (under set outside) s.pc s.a) ∙ sym (counts j)
 
     carries : carried (seen_by (both set i outside) first) ram s first second ≡ carried (seen_by (both set j outside) first) ram s first second
     carries = unfold visible pick in rw high

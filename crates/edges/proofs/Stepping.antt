@@ -201,15 +201,15 @@ stepped false = stepped-low
 stepped true = stepped-high
 
 -- What holds of all cases of a list holds of each.
-each : {A : Type 0} (f g : Case → A) (cs : List Case) (c : Case) → In c cs → map f cs ≡ map g cs → f c ≡ g c
-each f g cs c here e = cc
-each f g cs c (later i) e = each f g _ c i (cc)
+each : {A : Type 0} (f g : Case → A) (c : Case) (cs : List Case) → In c cs → map f cs ≡ map g cs → f c ≡ g c
+each f g c cs here e = cc
+each f g c cs (later i) e = each f g c _ i (cc)
 
 -- In any memory.
 pub edges-anywhere : (ea : Bool) (roms : Roms) (c : Case) → In c (edge_cases ea) → Holds ea roms c → seen_in roms c ≡ c.want
 edges-anywhere ea roms c i h =
-    ap c.look (runs ea roms c (each found (λ c. wanted ea) (edge_cases ea) c i (found-wanted ea)) h)
-    ∙ each computed (λ c. c.want) (edge_cases ea) c i (stepped ea)
+    ap c.look (runs ea roms c (each found (λ c. wanted ea) c (edge_cases ea) i (found-wanted ea)) h)
+    ∙ each computed (λ c. c.want) c (edge_cases ea) i (stepped ea)
 
 listed : (f g : Case → List ℕ) (cs : List Case) → ((c : Case) → In c cs → f c ≡ g c) → map f cs ≡ map g cs
 listed f g [] h = refl
@@ -223,7 +223,7 @@ sizes = refl
 inside-holds : (set : Set) (c : Case) → In c (edge_cases false) → Holds false (alone set c.program) c
 inside-holds set c i =
     record {
-      inside = each (λ c. program_allowed (length c.program)) (λ c. true) (edge_cases false) c i sizes;
+      inside = each (λ c. program_allowed (length c.program)) (λ c. true) c (edge_cases false) i sizes;
       outside = refl;
       sees = unfold visible pick in rw (drop-nil (length c.program)) (append-nil c.program);
     }
@@ -242,7 +242,7 @@ module _ (set : Set) (inside : List ℕ) (allowed : program_allowed (length insi
   outside-holds c i =
       record {
         inside = allowed;
-        outside = each (λ c. outside_allowed (length c.program)) (λ c. true) (edge_cases true) c i outside-sizes;
+        outside = each (λ c. outside_allowed (length c.program)) (λ c. true) c (edge_cases true) i outside-sizes;
         sees = unfold visible pick in refl;
       }
 
