@@ -1,5 +1,5 @@
 #![tactic(auto)]
-// The C interface. include/mcs48.h documents each function for its users.
+// The C interface; the crate mcs48_c_c exports its functions. include/mcs48.h documents each of them for its users.
 ghost use Rattle.std.specs.Prelude.{◌≡◌, length};
 ghost use Rattle.isa.specs.Choice.{pick};
 ghost use Rattle.isa.specs.Reading.{byte_at, decoded_at, under};
@@ -19,8 +19,7 @@ mod bytes; // the machine state as 24 bytes
 pub mod packing; // answers packed into one number
 
 // The state after power-up, into a buffer of 24 bytes.
-#[unsafe(no_mangle)]
-pub extern "C" fn mcs48_power_up(state: &mut [u8])
+pub fn mcs48_power_up(state: &mut [u8])
     ensures { state.new ≡ holding state.old power_up }
 {
     bytes::hold(state, State::power_up());
@@ -67,8 +66,7 @@ fn read_at(set: Set, program: &[u8], pc: u16, code: u8) -> u64
 
 // The instruction at an address: its length, and the bytes that the writer gives for it, which are those that stand there (`read-write`). A
 // call of the reader and the writer would say the same, but give the decoder a second caller (docs/PERFORMANCE.md).
-#[unsafe(no_mangle)]
-pub extern "C" fn mcs48_read(set: u32, program: &[u8], address: usize) -> u64
+pub fn mcs48_read(set: u32, program: &[u8], address: usize) -> u64
     ensures { result ≡ packed_read program.now address (read_from set program.now address) }
 {
     let Named::Known(named) = set_named(set) else {
@@ -84,8 +82,7 @@ pub extern "C" fn mcs48_read(set: u32, program: &[u8], address: usize) -> u64
 }
 
 // One line of a listing, into a buffer.
-#[unsafe(no_mangle)]
-pub extern "C" fn mcs48_list_line(set: u32, program: &[u8], address: usize, line: &mut [u8]) -> u64
+pub fn mcs48_list_line(set: u32, program: &[u8], address: usize, line: &mut [u8]) -> u64
     ensures answer { result ≡ packed_line (listed_from set program.now address (length line.old)) }
     ensures left { line.new ≡ line_from set program.now address line.old }
 {
@@ -156,8 +153,7 @@ fn total(totals: &mut [u64], used: usize, cycles: u64)
 }
 
 // A run over samples.
-#[unsafe(no_mangle)]
-pub extern "C" fn mcs48_run(
+pub fn mcs48_run(
     set: u32,
     program: &[u8],
     outside: &[u8],
@@ -177,8 +173,7 @@ pub extern "C" fn mcs48_run(
 }
 
 // One step, as a run over its two samples.
-#[unsafe(no_mangle)]
-pub extern "C" fn mcs48_step(
+pub fn mcs48_step(
     set: u32,
     program: &[u8],
     outside: &[u8],

@@ -1,0 +1,45 @@
+-- `mcs48_c::run_lent` meets its contract: the chip's run from the state that the bytes stand for, under the set that is named, with what
+-- its first step shows.
+-- Assumes nothing.
+use mathlib.Core.Path.{refl, ap}
+use borrow.Author.Rules.{rules}
+use borrow.Author.Tests.{eq-eqb, ne_eqb}
+use Rattle.isa.specs.Choice.{pick}
+use Rattle.chip.specs.Run.{unshown}
+use Rattle.chip.specs.declared.Played.{Played}
+use Rattle.chip.proofs.Runs.{same-or-none}
+use Rattle.mcs48_c.proofs.Naming.{known, unknown}
+use Rattle.mcs48_c.proofs.run_lent.Goals as goal
+
+pub returns-in_default : goal.returns-in_default
+unfolding pick
+returns-in_default c =
+    rw (
+      c.nothing_shown.ensures,
+      c.number.ensures,
+      unknown c.set_named.ensures c.in_default.is,
+      same-or-none c.args.asked unshown,
+    )
+    record { answer = refl; memory = refl; left = refl }
+
+pub returns-then-r-ne0 : goal.returns-then-r-ne0
+unfolding pick
+returns-then-r-ne0 c =
+    let e = c.state_of-start.ensures in
+    let r = c.play-p.ensures in
+    let q = ap (λ (p : Played). p.ran) r.answer in
+    rw (known c.set_named.ensures c.in-Known.is)
+    record {
+      answer = rw (r.answer, e);
+      memory = rw (← e) r.memory;
+      left = rw (← e, ← q, ne_eqb _ _ c.if-r-ne0.true) c.hold.ensures;
+    }
+
+pub returns-else-r-ne0 : goal.returns-else-r-ne0
+unfolding pick
+returns-else-r-ne0 c =
+    let e = c.state_of-start.ensures in
+    let r = c.play-p.ensures in
+    let q = ap (λ (p : Played). p.ran) r.answer in
+    rw (known c.set_named.ensures c.in-Known.is)
+    record { answer = rw (r.answer, e); memory = rw (← e) r.memory; left = rw (← e, ← q, eq-eqb _ _ c.if-r-ne0.false) }
