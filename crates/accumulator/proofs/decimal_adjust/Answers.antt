@@ -26,12 +26,12 @@ pub returns-then-high-c : goal.returns-then-high-c
 unfolding pick
 returns-then-high-c c =
     let met : low_adjusted c.args.s.a c.args.s.psw ≡ c.if-low-ac.a =
-        elim c.if-low-ac.branch [ then-low-ac w ↦ simp (w.a-is, w.if-low-ac.true) | else-low-ac w ↦ simp (w.a-is, w.if-low-ac.false) ] in
+    elim c.if-low-ac.branch [ then-low-ac w ↦ simp (w.a-is, w.if-low-ac.true) | else-low-ac w ↦ simp (w.a-is, w.if-low-ac.false) ] in
     simp (c.with_a_and_c.ensures, met, above-nine c.if-low-ac.a, c.if-high-c.true)
 
 pub returns : goal.returns
 unfolding pick
 returns c =
     let met : low_adjusted c.args.s.a c.args.s.psw ≡ c.if-low-ac.a =
-        elim c.if-low-ac.branch [ then-low-ac w ↦ simp (w.a-is, w.if-low-ac.true) | else-low-ac w ↦ simp (w.a-is, w.if-low-ac.false) ] in
+    elim c.if-low-ac.branch [ then-low-ac w ↦ simp (w.a-is, w.if-low-ac.true) | else-low-ac w ↦ simp (w.a-is, w.if-low-ac.false) ] in
     simp (c.with_a.ensures, met, above-nine c.if-low-ac.a, c.if-high-c.false)

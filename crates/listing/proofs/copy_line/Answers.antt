@@ -34,15 +34,13 @@ loop-i-smaller c = omega arith
 
 pub loop-i-preserved : goal.loop-i-preserved
 loop-i-preserved c =
-    let at = c in
-    let start = at in
-    let l = start.args.l in
-    let i : ℕ = at.loop-i.i in
+    let l = c.args.l in
+    let i : ℕ = c.loop-i.i in
     let whole : length l.bytes ≡ 32 = search rules in
-    let room : i < length start.args.buffer.now = omega arith in (
+    let room : i < length c.args.buffer.now = omega arith in (
       omega arith,
-      ap (λ (t : List ℕ). set t i (get_or l.bytes i 0)) at.loop-i.invariant.1 ∙ step l.bytes start.args.buffer.now i (omega arith) room,
-      length-set at.loop-i.buffer i (get_or l.bytes i 0) ∙ at.loop-i.invariant.2,
+      ap (λ (t : List ℕ). set t i (get_or l.bytes i 0)) c.loop-i.invariant.1 ∙ step l.bytes c.args.buffer.now i (omega arith) room,
+      length-set c.loop-i.buffer i (get_or l.bytes i 0) ∙ c.loop-i.invariant.2,
     )
 
 pub shape_of-buffer : goal.shape_of-buffer
@@ -50,13 +48,11 @@ shape_of-buffer c = c.loop-i.invariant.2
 
 pub returns : goal.returns
 returns c =
-    let at = c in
-    let u = at.used-n in
-    let start = at in
-    let l = start.args.l in
-    let done : at.loop-i.i ≡ u.result = omega arith in (
+    let u = c.used-n in
+    let l = c.args.l in
+    let done : c.loop-i.i ≡ u.result = omega arith in (
       u.ensures.2,
-      at.loop-i.invariant.1 ∙ ap (λ (k : ℕ). take k l.bytes ++ drop k start.args.buffer.now) done
-          ∙ ap (λ (t : List ℕ). t ++ drop u.result start.args.buffer.now) u.ensures.1
-          ∙ ap (λ (k : ℕ). text_in l ++ drop k start.args.buffer.now) u.ensures.2,
+      c.loop-i.invariant.1 ∙ ap (λ (k : ℕ). take k l.bytes ++ drop k c.args.buffer.now) done
+          ∙ ap (λ (t : List ℕ). t ++ drop u.result c.args.buffer.now) u.ensures.1
+          ∙ ap (λ (k : ℕ). text_in l ++ drop k c.args.buffer.now) u.ensures.2,
     )

@@ -28,9 +28,8 @@ returns-then-buffer-lt-LINE_BYTES c =
 pub returns-then-program-address : goal.returns-then-program-address
 unfolding listed_of line_after pick
 returns-then-program-address c =
-    let start = c in
-    let roomy : 32 ≤ length start.args.buffer.now = omega arith in
-    let past : length start.args.program.now ≤ start.args.address = omega arith in
+    let roomy : 32 ≤ length c.args.buffer.now = omega arith in
+    let past : length c.args.program.now ≤ c.args.address = omega arith in
     simp (le-ltb _ _ c.if-program-gt-PROGRAM_LIMIT.false, le-ltb _ _ roomy, le-leb _ _ past) record { answer = refl; left = refl }
 
 pub returns : goal.returns
@@ -38,13 +37,11 @@ unfolding cut listed_of line_after pick
 returns c =
     let copied = c.copy_line-n in
     let shown = c.show-r in
-    let else3 = c in
-    let start = else3 in
-    let program : Program = under start.args.set start.args.program.now in
-    let a : ℕ = start.args.address in
+    let program : Program = under c.args.set c.args.program.now in
+    let a : ℕ = c.args.address in
     let fits = line-short program a (c.type_inv.program a).fits in
     let text : text_in shown.result.draft ≡ line_at program a = shown.ensures.0 ∙ take_all 32 (line_at program a) fits in
     let size : shown.result.size ≡ size_at program a = shown.ensures.1 in
     let long : copied.result ≡ length (line_at program a) = copied.ensures.0 ∙ ap length text in
-    simp (le-ltb _ _ else3.if-program-gt-PROGRAM_LIMIT.false, le-ltb _ _ else3.if-buffer-lt-LINE_BYTES.false, lt-leb _ _ else3.if-program-address.false, size, long)
-    record { answer = refl; left = copied.ensures.1 ∙ ap (λ (t : List ℕ). t ++ drop (length t) start.args.buffer.now) text }
+    simp (le-ltb _ _ c.if-program-gt-PROGRAM_LIMIT.false, le-ltb _ _ c.if-buffer-lt-LINE_BYTES.false, lt-leb _ _ c.if-program-address.false, size, long)
+    record { answer = refl; left = copied.ensures.1 ∙ ap (λ (t : List ℕ). t ++ drop (length t) c.args.buffer.now) text }

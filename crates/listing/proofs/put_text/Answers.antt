@@ -27,26 +27,23 @@ loop-i-init c =
 -- a dot stands past the text's end
 pub returns-then-letter-eq46 : goal.returns-then-letter-eq46
 returns-then-letter-eq46 c =
-    let at = c in
-    let letters : List ℕ = letters_of at.args.kind in
-    let i : ℕ = at.loop-i.i in
+    let letters : List ℕ = letters_of c.args.kind in
+    let i : ℕ = c.loop-i.i in
     let z : get_or letters i 46 ≡ 46 = sym c.letter_at-letter.ensures ∙ c.if-letter-eq46.true in
-    let all : take i letters ≡ letters = take_all i letters (letters-end at.args.kind (search rules) i z) in
-    rw all at at.loop-i.invariant.1
+    let all : take i letters ≡ letters = take_all i letters (letters-end c.args.kind (search rules) i z) in
+    rw all at c.loop-i.invariant.1
 
 pub loop-i-preserved : goal.loop-i-preserved
 loop-i-preserved c =
-    let at = c in
-    let letters : List ℕ = letters_of at.args.kind in
-    let i : ℕ = at.loop-i.i in
+    let letters : List ℕ = letters_of c.args.kind in
+    let i : ℕ = c.loop-i.i in
     let there : i < length letters = more letters i c.letter_at-letter.result c.letter_at-letter.ensures c.if-letter-eq46.false in
-    (omega arith, rw (add-one, take-suc letters i 46 there, snoc, ← c.letter_at-letter.ensures) (chain at.loop-i.invariant.1 c.put_letter-out.ensures))
+    (omega arith, rw (add-one, take-suc letters i 46 there, snoc, ← c.letter_at-letter.ensures) (chain c.loop-i.invariant.1 c.put_letter-out.ensures))
 
 pub returns : goal.returns
 returns c =
-    let at = c in
-    let letters : List ℕ = letters_of at.args.kind in
-    let i : ℕ = at.loop-i.i in
-    let short : length letters ≤ 10 = letters-short at.args.kind (search rules) in
+    let letters : List ℕ = letters_of c.args.kind in
+    let i : ℕ = c.loop-i.i in
+    let short : length letters ≤ 10 = letters-short c.args.kind (search rules) in
     let all : take i letters ≡ letters = take_all i letters (omega arith) in
-    rw all at at.loop-i.invariant.1
+    rw all at c.loop-i.invariant.1

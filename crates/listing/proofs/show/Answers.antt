@@ -12,42 +12,36 @@ use Rattle.listing.proofs.show.Goals.{then-at-lt2047+else-at-program, else-at-lt
 
 pub line_two-requires : goal.line_two-requires
 line_two-requires c =
-    let e = c in
-    let a = e.args.a in
-    (kind-small _ e.entry_of-e.result _ e.entry_of-e.ensures (c.type_inv.program a).fits, omega arith)
+    let a = c.args.a in
+    (kind-small _ c.entry_of-e.result _ c.entry_of-e.ensures (c.type_inv.program a).fits, omega arith)
 
 pub returns-then-at-program : goal.returns-then-at-program
 unfolding line_at size_at pick
 returns-then-at-program c =
-    let e = c in
-    simp (sym e.entry_of-e.ensures, c.if-bytes-eq2.true, lt-ltb _ _ c.if-at-lt2047.true, lt-ltb _ _ c.if-at-program.true)
+    simp (sym c.entry_of-e.ensures, c.if-bytes-eq2.true, lt-ltb _ _ c.if-at-lt2047.true, lt-ltb _ _ c.if-at-program.true)
     (c.line_two.ensures, refl)
 
 pub returns-then-bytes-eq2 : goal.returns-then-bytes-eq2
 unfolding line_at size_at pick
 returns-then-bytes-eq2 c =
-    let e = c in
     elim c.if-at-lt2047.branch [
-      then-at-lt2047+else-at-program w ↦
-          simp (sym e.entry_of-e.ensures, c.if-bytes-eq2.true, lt-ltb _ _ w.if-at-lt2047.true, le-ltb _ _ w.if-at-program.false) (c.line_one.ensures, refl)
+      | then-at-lt2047+else-at-program w ↦
+          simp (sym c.entry_of-e.ensures, c.if-bytes-eq2.true, lt-ltb _ _ w.if-at-lt2047.true, le-ltb _ _ w.if-at-program.false) (c.line_one.ensures, refl)
       | else-at-lt2047 w ↦
-          simp (sym e.entry_of-e.ensures, c.if-bytes-eq2.true, le-ltb _ _ w.if-at-lt2047.false) (c.line_one.ensures, refl)
+          simp (sym c.entry_of-e.ensures, c.if-bytes-eq2.true, le-ltb _ _ w.if-at-lt2047.false) (c.line_one.ensures, refl)
     ]
 
 pub line_one-requires-then-bytes-eq1 : goal.line_one-requires-then-bytes-eq1
 line_one-requires-then-bytes-eq1 c =
-    let e = c in
-    let a = e.args.a in
-    (kind-small _ e.entry_of-e.result _ e.entry_of-e.ensures (c.type_inv.program a).fits, omega arith)
+    let a = c.args.a in
+    (kind-small _ c.entry_of-e.result _ c.entry_of-e.ensures (c.type_inv.program a).fits, omega arith)
 
 pub returns-then-bytes-eq1 : goal.returns-then-bytes-eq1
 unfolding line_at size_at pick
 returns-then-bytes-eq1 c =
-    let e = c in
-    simp (sym e.entry_of-e.ensures, c.if-bytes-eq1.true) (c.line_one-then-bytes-eq1.ensures, refl)
+    simp (sym c.entry_of-e.ensures, c.if-bytes-eq1.true) (c.line_one-then-bytes-eq1.ensures, refl)
 
 pub returns : goal.returns
 unfolding line_at size_at pick
 returns c =
-    let e = c in
-    simp (sym e.entry_of-e.ensures, ne_eqb _ _ c.if-bytes-eq2.false, ne_eqb _ _ c.if-bytes-eq1.false) (c.line_one-2.ensures, refl)
+    simp (sym c.entry_of-e.ensures, ne_eqb _ _ c.if-bytes-eq2.false, ne_eqb _ _ c.if-bytes-eq1.false) (c.line_one-2.ensures, refl)

@@ -10,22 +10,16 @@ use Rattle.mcs48_c.proofs.mcs48_list_line.Goals as goal
 
 pub returns-in_default : goal.returns-in_default
 returns-in_default c =
-    let told = c in
-    rw (c.pack_refusal.ensures, unknown told.set_named.ensures told.in_default.is) record { answer = refl; left = refl }
+    rw (c.pack_refusal.ensures, unknown c.set_named.ensures c.in_default.is) record { answer = refl; left = refl }
 
 pub returns-in-Printed : goal.returns-in-Printed
 returns-in-Printed c =
-    let listed = c in
-    let told = listed in
-    let start = told in
-    let args = start.args in
-    let program : Program = under told.in-Known.named args.program.now in
-    let small = (start.type_inv.program args.address).fits in
-    rw (known told.set_named.ensures told.in-Known.is) record { answer = rw c.pack.ensures.is (printed program args.address (length args.line.now) small listed.line.ensures.answer c.in-Printed.is); left = listed.line.ensures.left }
+    let args = c.args in
+    let program : Program = under c.in-Known.named args.program.now in
+    let small = (c.type_inv.program args.address).fits in
+    rw (known c.set_named.ensures c.in-Known.is) record { answer = rw c.pack.ensures.is (printed program args.address (length args.line.now) small c.line.ensures.answer c.in-Printed.is); left = c.line.ensures.left }
 
 pub returns-in-Unlisted : goal.returns-in-Unlisted
 returns-in-Unlisted c =
-    let listed = c in
-    let told = listed in
-    rw (known told.set_named.ensures told.in-Known.is)
-    record { answer = rw (c.pack_refusal-in-Unlisted.ensures, ← listed.line.ensures.answer, c.in-Unlisted.is); left = listed.line.ensures.left }
+    rw (known c.set_named.ensures c.in-Known.is)
+    record { answer = rw (c.pack_refusal-in-Unlisted.ensures, ← c.line.ensures.answer, c.in-Unlisted.is); left = c.line.ensures.left }

@@ -9,22 +9,19 @@ use Rattle.mcs48_c.proofs.mcs48_read.Goals as goal
 
 pub returns-in_default : goal.returns-in_default
 returns-in_default c =
-    let told = c in
-    rw (c.pack_refusal.ensures, unknown told.set_named.ensures told.in_default.is)
+    rw (c.pack_refusal.ensures, unknown c.set_named.ensures c.in_default.is)
 
 pub returns-then-program-gt-PROGRAM_LIMIT : goal.returns-then-program-gt-PROGRAM_LIMIT
 unfolding read_of instruction_at pick
 returns-then-program-gt-PROGRAM_LIMIT c =
-    let told = c in
-    simp (c.pack_refusal-then-program-gt-PROGRAM_LIMIT.ensures, known told.set_named.ensures told.in-Known.is, lt-ltb _ _ c.if-program-gt-PROGRAM_LIMIT.true)
+    simp (c.pack_refusal-then-program-gt-PROGRAM_LIMIT.ensures, known c.set_named.ensures c.in-Known.is, lt-ltb _ _ c.if-program-gt-PROGRAM_LIMIT.true)
 
 pub returns-then-program-address : goal.returns-then-program-address
 unfolding read_of instruction_at pick
 returns-then-program-address c =
-    let told = c in
     simp (
       c.pack_refusal-then-program-address.ensures,
-      known told.set_named.ensures told.in-Known.is,
+      known c.set_named.ensures c.in-Known.is,
       le-ltb _ _ c.if-program-gt-PROGRAM_LIMIT.false,
       le-leb _ _ c.if-program-address.true,
     )
@@ -32,9 +29,8 @@ returns-then-program-address c =
 pub returns : goal.returns
 unfolding read_of instruction_at pick
 returns c =
-    let told = c in
     simp (
-      known told.set_named.ensures told.in-Known.is,
+      known c.set_named.ensures c.in-Known.is,
       le-ltb _ _ c.if-program-gt-PROGRAM_LIMIT.false,
       lt-leb _ _ c.if-program-address.false,
       c.read_at.ensures,

@@ -11,36 +11,32 @@ returns-then-b c = no-first _ _ c.number.ensures (found-lacking _ _ _ _ _ c.fetc
 
 pub returns-then-bytes-eq1 : goal.returns-then-bytes-eq1
 returns-then-bytes-eq1 c =
-    let e = c in
-    let b = e.fetch-b.ensures in
-    one_byte _ _ e.entry_in-e.result
-    (entry-is _ _ e.requires (found-byte _ _ _ _ _ b) (omega arith) e.entry_in-e.ensures)
-    (found-lacking _ _ _ _ _ b e.if-b.false) (found-byte _ _ _ _ _ b) c.if-bytes-eq1.true c.next_pc-next.ensures
+    let b = c.fetch-b.ensures in
+    one_byte _ _ c.entry_in-e.result
+    (entry-is _ _ c.requires (found-byte _ _ _ _ _ b) (omega arith) c.entry_in-e.ensures)
+    (found-lacking _ _ _ _ _ b c.if-b.false) (found-byte _ _ _ _ _ b) c.if-bytes-eq1.true c.next_pc-next.ensures
 
 pub returns-then-bytes-eq0 : goal.returns-then-bytes-eq0
 returns-then-bytes-eq0 c =
-    let e = c in
-    let b = e.fetch-b.ensures in
-    undefined _ _ e.entry_in-e.result
-    (entry-is _ _ e.requires (found-byte _ _ _ _ _ b) (omega arith) e.entry_in-e.ensures)
-    (found-lacking _ _ _ _ _ b e.if-b.false) c.number-then-bytes-eq0.ensures c.if-bytes-eq0.true
+    let b = c.fetch-b.ensures in
+    undefined _ _ c.entry_in-e.result
+    (entry-is _ _ c.requires (found-byte _ _ _ _ _ b) (omega arith) c.entry_in-e.ensures)
+    (found-lacking _ _ _ _ _ b c.if-b.false) c.number-then-bytes-eq0.ensures c.if-bytes-eq0.true
 
 pub returns-then-d : goal.returns-then-d
 returns-then-d c =
-    let e = c in
-    let b = e.fetch-b.ensures in
-    no-second _ _ e.entry_in-e.result
-    (entry-is _ _ e.requires (found-byte _ _ _ _ _ b) (omega arith) e.entry_in-e.ensures)
-    (found-lacking _ _ _ _ _ b e.if-b.false) c.number-then-d.ensures c.if-bytes-eq0.false c.if-bytes-eq1.false
+    let b = c.fetch-b.ensures in
+    no-second _ _ c.entry_in-e.result
+    (entry-is _ _ c.requires (found-byte _ _ _ _ _ b) (omega arith) c.entry_in-e.ensures)
+    (found-lacking _ _ _ _ _ b c.if-b.false) c.number-then-d.ensures c.if-bytes-eq0.false c.if-bytes-eq1.false
     c.next_pc-next.ensures (found-lacking _ _ _ _ _ c.fetch-d.ensures c.if-d.true)
 
 pub returns : goal.returns
 returns c =
-    let e = c in
-    let b = e.fetch-b.ensures in
+    let b = c.fetch-b.ensures in
     let d = c.fetch-d.ensures in
-    two_bytes _ _ e.entry_in-e.result
-    (entry-is _ _ e.requires (found-byte _ _ _ _ _ b) (omega arith) e.entry_in-e.ensures)
-    (found-lacking _ _ _ _ _ b e.if-b.false) (found-byte _ _ _ _ _ b) (found-byte _ _ _ _ _ d)
+    two_bytes _ _ c.entry_in-e.result
+    (entry-is _ _ c.requires (found-byte _ _ _ _ _ b) (omega arith) c.entry_in-e.ensures)
+    (found-lacking _ _ _ _ _ b c.if-b.false) (found-byte _ _ _ _ _ b) (found-byte _ _ _ _ _ d)
     c.if-bytes-eq0.false c.if-bytes-eq1.false
     c.next_pc-next.ensures (found-lacking _ _ _ _ _ d c.if-d.false) c.next_pc.ensures

@@ -29,16 +29,14 @@ loop-i-smaller c = omega arith
 
 pub loop-i-preserved : goal.loop-i-preserved
 loop-i-preserved c =
-    let at = c in
-    let start = at in
-    let old : List ℕ = start.args.b.now in
-    let bytes : List ℕ = at.bytes_of-bytes.result in
-    let i : ℕ = at.loop-i.i in
-    let inv = at.loop-i.invariant in
+    let old : List ℕ = c.args.b.now in
+    let bytes : List ℕ = c.bytes_of-bytes.result in
+    let i : ℕ = c.loop-i.i in
+    let inv = c.loop-i.invariant in
     let room : i < length old = omega arith in (
       omega arith,
       ap (λ (t : List ℕ). set t i (get_or bytes i 0)) inv.1 ∙ copied-more bytes old i (omega arith) room,
-      length-set at.loop-i.b i (get_or bytes i 0) ∙ inv.2,
+      length-set c.loop-i.b i (get_or bytes i 0) ∙ inv.2,
       inv.3,
     )
 
@@ -48,12 +46,10 @@ shape_of-b c = c.loop-i.invariant.2
 pub returns-after-loop-i : goal.returns-after-loop-i
 unfolding holding pick
 returns-after-loop-i c =
-    let at = c in
-    let start = at in
-    let old : List ℕ = start.args.b.now in
-    let made = at.bytes_of-bytes in
-    rw (eq-eqb _ _ at.if-b-eq24.true)
-    (at.loop-i.invariant.1 ∙ copied-all made.result old at.loop-i.i (omega arith) (omega arith) ∙ made.ensures)
+    let old : List ℕ = c.args.b.now in
+    let made = c.bytes_of-bytes in
+    rw (eq-eqb _ _ c.if-b-eq24.true)
+    (c.loop-i.invariant.1 ∙ copied-all made.result old c.loop-i.i (omega arith) (omega arith) ∙ made.ensures)
 
 pub returns-else-b-eq24 : goal.returns-else-b-eq24
 unfolding holding pick
