@@ -1,6 +1,6 @@
 -- Document 01, "The sixteen bench cases", as one table: what is run, where one looks, and what is to be seen there.
 -- Assumes nothing.
-use Rattle.std.specs.Prelude.{ℕ, zero, suc, ◌-◌, ◌+◌, true, List, [], ◌∷◌, ◌++◌, length, get_or, set}
+use Rattle.std.specs.Prelude.{ℕ, zero, suc, ◌-◌, true, List, [], ◌∷◌, ◌++◌, length, get_or, set}
 use Rattle.isa.specs.Choice.{one_if}
 use Rattle.isa.specs.declared.Set.{Set}
 use Rattle.machine.specs.Rom.{alone}

@@ -1,6 +1,5 @@
 -- `accumulator::add` meets its contract.
 -- Assumes nothing.
-use borrow.Author.Rules.{rules}
 use Rattle.accumulator.proofs.add.Goals as goal
 
 pub returns : goal.returns

@@ -1,6 +1,5 @@
 -- `accumulator::change` meets its contract.
 -- Assumes nothing.
-use borrow.Author.Rules.{rules}
 use Rattle.accumulator.proofs.change.Goals as goal
 
 pub returns-in-CplA : goal.returns-in-CplA

@@ -1,6 +1,5 @@
 -- `accumulator::operate` meets its contract.
 -- Assumes nothing.
-use borrow.Author.Rules.{rules}
 use Rattle.accumulator.proofs.operate.Goals as goal
 
 pub returns-in-Add : goal.returns-in-Add

@@ -1,6 +1,5 @@
 -- `accumulator::with_a_and_c` meets its contract.
 -- Assumes nothing.
-use borrow.Author.Rules.{rules}
 use Rattle.accumulator.proofs.with_a_and_c.Goals as goal
 
 pub returns : goal.returns

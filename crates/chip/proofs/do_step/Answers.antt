@@ -1,6 +1,5 @@
 -- `chip::do_step` meets its contract: what its course writes is what the step does.
 -- Assumes nothing.
-use borrow.Author.Rules.{rules}
 use borrow.Author.Tests.{eq-eqb, ne_eqb}
 use Rattle.isa.specs.Choice.{pick}
 use Rattle.chip.specs.Step.{plan_by}

@@ -1,7 +1,6 @@
 -- `chip::settle` meets its contract.
 -- Assumes nothing.
 use Rattle.chip.specs.Step.{settled}
-use borrow.Author.Rules.{rules}
 use Rattle.chip.proofs.settle.Goals as goal
 
 pub returns : goal.returns

@@ -3,7 +3,6 @@
 use Rattle.chip.specs.Step.{ticked}
 use Rattle.isa.specs.Choice.{pick}
 use native.Mathlib.Omega.{arith}
-use borrow.Author.Rules.{rules}
 use borrow.Author.Tests.{eq-eqb, ne_eqb}
 use Rattle.chip.proofs.tick.Goals as goal
 

@@ -1,6 +1,5 @@
 -- `effects::lacking_effect` meets its contract.
 -- Assumes nothing.
-use borrow.Author.Rules.{rules}
 use Rattle.effects.proofs.lacking_effect.Goals as goal
 
 pub returns : goal.returns

@@ -1,6 +1,5 @@
 -- `effects::stored_effect` meets its contract.
 -- Assumes nothing.
-use borrow.Author.Rules.{rules}
 use Rattle.effects.specs.Effect.{written}
 use Rattle.effects.proofs.stored_effect.Goals as goal
 

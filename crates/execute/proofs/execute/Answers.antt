@@ -2,7 +2,6 @@
 -- Assumes nothing.
 use Rattle.effects.specs.Effect.{written}
 use Rattle.execute.specs.Execute.{executed}
-use borrow.Author.Rules.{rules}
 use Rattle.execute.proofs.Writing.{switch-writes, table-writes}
 use Rattle.execute.proofs.execute.Goals as goal
 

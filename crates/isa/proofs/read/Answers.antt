@@ -1,6 +1,5 @@
 -- `isa::read` meets its contract: at each `return` the tests that led there pick its case of `read_of`.
 -- Assumes nothing.
-use borrow.Author.Rules.{rules}
 use borrow.Author.Tests.{lt-ltb, le-ltb, le-leb, lt-leb}
 use Rattle.isa.specs.Choice.{pick}
 use Rattle.isa.specs.Reading.{read_of, instruction_at}

@@ -1,14 +1,12 @@
 -- `listing::copy_line` meets its contract. The loop's invariant: the buffer has the line's first i bytes, and past them what it had.
 -- Assumes nothing.
-use mathlib.Core.Path.{◌≡◌, refl, sym, ap, ◌∙◌}
+use mathlib.Core.Path.{◌≡◌, sym, ap, ◌∙◌}
 use mathlib.Core.List.{List, [], ◌∷◌, ◌++◌, append_assoc}
 use Prim.Native.Nat.{ℕ, suc, ◌+◌, ◌-◌, ◌≤◌, ◌<◌}
 use native.Mathlib.Numerals.{add-one}
 use native.Mathlib.Omega.{arith}
-use lib.ListN.{length, get_or, take, drop, set, length-set}
+use lib.ListN.{length, get_or, take, drop, set}
 use lib.Seq.{drop-cons, take-suc, set_at, length-take-le}
-use borrow.Author.Rules.{rules}
-use Rattle.listing.specs.Draft.{text_in}
 use Rattle.listing.proofs.copy_line.Given as goal
 
 -- one byte more

@@ -1,7 +1,6 @@
 -- `listing::digit` meets its contract.
 -- Assumes nothing.
 use Rattle.isa.specs.Choice.{pick}
-use borrow.Author.Rules.{rules}
 use borrow.Author.Tests.{lt-ltb, le-ltb}
 use Rattle.listing.proofs.digit.Goals as goal
 

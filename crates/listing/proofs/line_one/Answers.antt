@@ -1,6 +1,5 @@
 -- `listing::line_one` meets its contract.
 -- Assumes nothing.
-use borrow.Author.Rules.{rules}
 use mathlib.Core.List.{◌++◌}
 use Rattle.listing.specs.Text.{hex3, ascii}
 use Rattle.listing.proofs.Drafts.{chain, started}

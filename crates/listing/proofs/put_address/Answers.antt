@@ -1,6 +1,5 @@
 -- `listing::put_address` meets its contract.
 -- Assumes nothing.
-use borrow.Author.Rules.{rules}
 use Rattle.listing.proofs.Drafts.{chain}
 use Rattle.listing.proofs.put_address.Goals as goal
 

@@ -1,6 +1,5 @@
 -- `listing::put_hex3` meets its contract.
 -- Assumes nothing.
-use borrow.Author.Rules.{rules}
 use Rattle.listing.proofs.Drafts.{chain}
 use Rattle.listing.proofs.put_hex3.Goals as goal
 

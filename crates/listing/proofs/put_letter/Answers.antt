@@ -1,7 +1,6 @@
 -- `listing::put_letter` meets its contract.
 -- Assumes nothing.
 use Rattle.isa.specs.Choice.{pick}
-use borrow.Author.Rules.{rules}
 use borrow.Author.Tests.{ne_eqb}
 use Rattle.listing.specs.Text.{expand}
 use Rattle.listing.proofs.put_letter.Goals as goal

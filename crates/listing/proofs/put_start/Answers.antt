@@ -1,6 +1,5 @@
 -- `listing::put_start` meets its contract.
 -- Assumes nothing.
-use borrow.Author.Rules.{rules}
 use Rattle.listing.specs.Draft.{text_in}
 use Rattle.listing.proofs.Drafts.{chain}
 use Rattle.listing.proofs.put_start.Goals as goal

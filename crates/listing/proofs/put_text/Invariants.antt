@@ -1,18 +1,13 @@
 -- `listing::put_text` meets its contract. The loop's invariant: the line has the first i letters of the text, each as it is shown.
 -- Assumes nothing.
-use mathlib.Core.Path.{◌≡◌, sym, ◌∙◌}
+use mathlib.Core.Path.{◌≡◌, ◌∙◌}
 use mathlib.Core.List.{List}
 use Prim.Native.Nat.{ℕ, ◌≤◌, ◌<◌, ◌-◌}
 use native.Mathlib.Decide.{dec_lt}
-use native.Mathlib.Numerals.{add-one}
 use native.Mathlib.Omega.{arith}
 use lib.ListN.{length, get_or, take, get_or-eq_default}
-use lib.Seq.{take_all, take-suc}
-use borrow.Author.Rules.{rules}
 use Rattle.listing.specs.Draft.{Adds}
 use Rattle.listing.specs.Text.{expand_all, letters_of}
-use Rattle.listing.proofs.Drafts.{chain, kept}
-use Rattle.listing.proofs.Texts.{snoc, letters-short, letters-end}
 use Rattle.listing.proofs.put_text.Given as goal
 
 -- any other letter stands in the text

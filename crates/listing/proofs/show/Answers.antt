@@ -3,7 +3,6 @@
 use Rattle.isa.specs.Choice.{pick}
 use mathlib.Core.Path.{refl, sym}
 use native.Mathlib.Omega.{arith}
-use borrow.Author.Rules.{rules}
 use borrow.Author.Tests.{lt-ltb, le-ltb, ne_eqb}
 use Rattle.listing.specs.Listing.{line_at, size_at}
 use Rattle.listing.proofs.Texts.{kind-small}

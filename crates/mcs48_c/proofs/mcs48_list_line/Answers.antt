@@ -2,7 +2,6 @@
 -- Assumes nothing.
 use mathlib.Core.Path.{refl}
 use lib.ListN.{length}
-use borrow.Author.Rules.{rules}
 use Rattle.isa.specs.Reading.{Program, under}
 use Rattle.mcs48_c.proofs.Lines.{printed}
 use Rattle.mcs48_c.proofs.Naming.{known, unknown}

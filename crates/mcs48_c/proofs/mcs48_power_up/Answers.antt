@@ -1,6 +1,5 @@
 -- `mcs48_c::mcs48_power_up` meets its contract.
 -- Assumes nothing.
-use borrow.Author.Rules.{rules}
 use Rattle.mcs48_c.proofs.mcs48_power_up.Goals as goal
 
 pub returns : goal.returns

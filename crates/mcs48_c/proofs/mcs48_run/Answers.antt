@@ -1,7 +1,6 @@
 -- `mcs48_c::mcs48_run` meets its contract.
 -- Assumes nothing.
 use mathlib.Core.Path.{◌∙◌}
-use borrow.Author.Rules.{rules}
 use Rattle.mcs48_c.proofs.mcs48_run.Goals as goal
 
 pub returns : goal.returns

@@ -1,7 +1,6 @@
 -- `mcs48_c::mcs48_step` meets its contract: a run over two samples is one step.
 -- Assumes nothing.
 use mathlib.Core.Path.{◌∙◌}
-use borrow.Author.Rules.{rules}
 use Rattle.mcs48_c.proofs.OneStep.{stepped, left, kept}
 use Rattle.mcs48_c.proofs.mcs48_step.Goals as goal
 

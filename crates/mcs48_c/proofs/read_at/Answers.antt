@@ -1,6 +1,5 @@
 -- `mcs48_c::read_at` meets its contract: at each `return` the tests that led there pick its case of `decoded_at`.
 -- Assumes nothing.
-use borrow.Author.Rules.{rules}
 use borrow.Author.Tests.{eq-eqb, ne_eqb, le-leb, lt-leb}
 use Rattle.isa.specs.Choice.{pick}
 use Rattle.isa.specs.Reading.{decoded_at}

@@ -2,7 +2,6 @@
 -- its first step shows.
 -- Assumes nothing.
 use mathlib.Core.Path.{refl, ap}
-use borrow.Author.Rules.{rules}
 use borrow.Author.Tests.{eq-eqb, ne_eqb}
 use Rattle.isa.specs.Choice.{pick}
 use Rattle.chip.specs.Run.{unshown}

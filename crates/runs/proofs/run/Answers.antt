@@ -1,7 +1,6 @@
 -- `runs::run` meets its contract.
 -- Assumes nothing.
 use mathlib.Core.Path.{ap}
-use borrow.Author.Rules.{rules}
 use Rattle.chip.specs.declared.Played.{Played}
 use Rattle.runs.proofs.run.Goals as goal
 

@@ -1,20 +1,13 @@
 -- `runs::run_on` meets its contract. The loop's invariant: the run from here on is the run from the start, and 1, 2 and 3 are not given.
 -- Each turn is a law of Runs or of Laws.
 -- Assumes nothing.
-use Prim.Native.Nat.{ℕ, ◌-◌, ◌≤◌}
-use mathlib.Core.List.{List, [], ◌∷◌, ◌++◌}
-use mathlib.Core.Path.{◌≡◌, refl, sym, ap, ◌∙◌}
+use mathlib.Core.List.{[], ◌∷◌, ◌++◌}
+use mathlib.Core.Path.{refl, sym, ap, ◌∙◌}
 use native.Mathlib.Omega.{arith}
-use lib.ListN.{length, drop}
-use borrow.Author.Rules.{rules}
-use Rattle.machine.specs.Rom.{Roms, both}
-use Rattle.machine.specs.declared.State.{State}
-use Rattle.effects.specs.declared.Event.{Event}
-use Rattle.chip.specs.Admission.{lent_of}
-use Rattle.chip.specs.Run.{Progress, Ended, begun, run_over}
+use Rattle.machine.specs.Rom.{both}
+use Rattle.chip.specs.Run.{Progress, Ended}
 use Rattle.chip.proofs.Permitted.{still-stands}
 use Rattle.chip.proofs.Runs.{next, run-short, spent, went, halted}
-use Rattle.runs.proofs.Going.{Going}
 use Rattle.runs.proofs.run_on.Goals as goal
 
 pub loop-i-init : goal.loop-i-init

@@ -1,7 +1,6 @@
 -- `runs::shown_ahead` meets its contract.
 -- Assumes nothing.
 use mathlib.Core.Path.{sym, ◌∙◌}
-use borrow.Author.Rules.{rules}
 use Rattle.isa.specs.Choice.{pick}
 use Rattle.runs.proofs.Shows.{short-unshown, shown-first}
 use Rattle.runs.proofs.shown_ahead.Goals as goal

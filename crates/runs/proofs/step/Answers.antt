@@ -1,6 +1,5 @@
 -- `runs::step` meets its contract: what 1, 2 and 3 refuse, the definition refuses too.
 -- Assumes nothing.
-use borrow.Author.Rules.{rules}
 use Rattle.machine.specs.Rom.{both}
 use Rattle.chip.proofs.Exactly.{lent-refuses, refused-step}
 use Rattle.runs.proofs.step.Goals as goal

@@ -1,6 +1,5 @@
 -- `writer::cell_code` meets its contract.
 -- Assumes nothing.
-use borrow.Author.Rules.{rules}
 use Rattle.writer.proofs.cell_code.Goals as goal
 
 pub returns-in-Register : goal.returns-in-Register

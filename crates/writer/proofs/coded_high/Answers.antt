@@ -1,6 +1,5 @@
 -- `writer::coded_high` meets its contract: the test is that of `within`.
 -- Assumes nothing.
-use borrow.Author.Rules.{rules}
 use Prim.Native.Nat.{zero-le}
 use borrow.Author.Tests.{le-leb, lt-leb}
 use Rattle.isa.specs.Choice.{pick}

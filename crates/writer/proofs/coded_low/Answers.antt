@@ -1,6 +1,5 @@
 -- `writer::coded_low` meets its contract: the two tests are those of `within`.
 -- Assumes nothing.
-use borrow.Author.Rules.{rules}
 use borrow.Author.Tests.{le-leb, lt-leb}
 use Rattle.isa.specs.Choice.{pick}
 use Rattle.writer.proofs.coded_low.Goals as goal

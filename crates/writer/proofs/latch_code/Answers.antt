@@ -1,6 +1,5 @@
 -- `writer::latch_code` meets its contract.
 -- Assumes nothing.
-use borrow.Author.Rules.{rules}
 use Rattle.writer.proofs.latch_code.Goals as goal
 
 pub returns-in-Bus : goal.returns-in-Bus

@@ -1,6 +1,5 @@
 -- `writer::nec_code` meets its contract.
 -- Assumes nothing.
-use borrow.Author.Rules.{rules}
 use Rattle.writer.proofs.nec_code.Goals as goal
 
 pub returns-in-Intel : goal.returns-in-Intel

@@ -1,6 +1,5 @@
 -- `writer::source_code` meets its contract.
 -- Assumes nothing.
-use borrow.Author.Rules.{rules}
 use Rattle.writer.proofs.source_code.Goals as goal
 
 pub returns-in-FromRegister : goal.returns-in-FromRegister

@@ -1,6 +1,5 @@
 -- `writer::unary_code` meets its contract: each arm is the code that the sheet has.
 -- Assumes nothing.
-use borrow.Author.Rules.{rules}
 use mathlib.Core.Path.{refl}
 use Rattle.isa.specs.Choice.{pick}
 use Rattle.isa.specs.Sheet.{kind_of, entry_of}

@@ -1,6 +1,5 @@
 -- `writer::with-second` meets its contract.
 -- Assumes nothing.
-use borrow.Author.Rules.{rules}
 use Rattle.writer.proofs.with_second.Goals as goal
 
 pub returns-in-One : goal.returns-in-One

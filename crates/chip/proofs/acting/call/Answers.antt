@@ -1,7 +1,6 @@
 -- `chip::acting::call` meets its contract.
 -- Assumes nothing.
 use Rattle.chip.specs.Step.{called}
-use borrow.Author.Rules.{rules}
 use Rattle.chip.proofs.acting.call.Goals as goal
 
 pub returns : goal.returns

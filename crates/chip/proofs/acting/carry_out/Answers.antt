@@ -1,6 +1,5 @@
 -- `chip::acting::carry_out` meets its contract: what is fetched is the instruction that stands at PC.
 -- Assumes nothing.
-use borrow.Author.Rules.{rules}
 use Rattle.machine.specs.Pins.{ea_pin, is_high}
 use Rattle.machine.specs.Rom.{visible}
 use Rattle.effects.specs.Effect.{Effect, written}

@@ -1,13 +1,9 @@
 -- `chip::acting::course_of` meets its contract: each turn does what the course of such a step is.
 -- Assumes nothing.
-use Prim.Native.Nat.{◌≤◌}
-use lib.ListN.{length}
-use mathlib.Core.Path.{◌≡◌}
-use borrow.Author.Rules.{rules}
 use Rattle.machine.specs.Rom.{both}
 use Rattle.effects.specs.Effect.{written}
 use Rattle.effects.specs.Moves.{quiet}
-use Rattle.chip.specs.Step.{declined, accepted, reset_state, waits, called, course_by, course}
+use Rattle.chip.specs.Step.{declined, accepted, reset_state, waits, called}
 use Rattle.chip.proofs.Exactly.{roomy}
 use Rattle.chip.proofs.acting.course_of.Goals as goal
 

@@ -2,7 +2,6 @@
 -- Assumes nothing.
 use Rattle.isa.specs.Choice.{pick}
 use Rattle.chip.specs.Step.{done}
-use borrow.Author.Rules.{rules}
 use borrow.Author.Tests.{eq-eqb, ne_eqb}
 use Rattle.chip.proofs.acting.finish.Goals as goal
 

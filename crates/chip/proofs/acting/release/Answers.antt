@@ -1,6 +1,5 @@
 -- `chip::acting::release` meets its contract: INT's level picks the case.
 -- Assumes nothing.
-use borrow.Author.Rules.{rules}
 use borrow.Author.Tests.{ne_eqb}
 use Rattle.isa.specs.Choice.{pick}
 use Rattle.chip.proofs.acting.release.Goals as goal

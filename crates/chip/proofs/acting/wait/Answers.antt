@@ -1,6 +1,5 @@
 -- `chip::acting::wait` meets its contract.
 -- Assumes nothing.
-use borrow.Author.Rules.{rules}
 use Rattle.chip.specs.Step.{waits}
 use Rattle.chip.proofs.acting.wait.Goals as goal
 

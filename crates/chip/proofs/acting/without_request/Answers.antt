@@ -1,7 +1,6 @@
 -- `chip::acting::without_request` meets its contract.
 -- Assumes nothing.
 use Rattle.chip.specs.Step.{without_request}
-use borrow.Author.Rules.{rules}
 use Rattle.chip.proofs.acting.without_request.Goals as goal
 
 pub returns : goal.returns

@@ -2,7 +2,6 @@
 -- Assumes nothing.
 use Rattle.chip.specs.Admission.{lent_number}
 use Rattle.isa.specs.Choice.{pick}
-use borrow.Author.Rules.{rules}
 use Rattle.chip.proofs.admission.lent_number.Goals as goal
 
 pub returns-then-not-long : goal.returns-then-not-long

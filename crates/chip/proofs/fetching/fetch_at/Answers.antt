@@ -1,7 +1,6 @@
 -- `chip::fetching::fetch_at` meets its contract: each `return` is one way that the fetch may end.
 -- Assumes nothing.
 use native.Mathlib.Omega.{arith}
-use borrow.Author.Rules.{rules}
 use Rattle.machine.proofs.Seeing.{found-lacking, found-byte}
 use Rattle.chip.proofs.Fetches.{entry-is, no-first, undefined, no-second, one_byte, two_bytes}
 use Rattle.chip.proofs.fetching.fetch_at.Goals as goal

@@ -1,7 +1,6 @@
 -- `effects::memory::place` meets its contract.
 -- Assumes nothing.
 use native.Mathlib.Omega.{arith}
-use borrow.Author.Rules.{rules}
 use Rattle.effects.proofs.memory.place.Goals as goal
 
 pub returns-in-Register : goal.returns-in-Register

@@ -1,6 +1,5 @@
 -- `effects::memory::source` meets its contract.
 -- Assumes nothing.
-use borrow.Author.Rules.{rules}
 use Rattle.effects.proofs.memory.source.Goals as goal
 
 pub returns-in-FromRegister : goal.returns-in-FromRegister

@@ -1,6 +1,5 @@
 -- `effects::moves::exchange` meets its contract.
 -- Assumes nothing.
-use borrow.Author.Rules.{rules}
 use Rattle.effects.proofs.moves.exchange.Goals as goal
 
 pub returns : goal.returns

@@ -1,6 +1,5 @@
 -- `effects::moves::exchange_digits` meets its contract.
 -- Assumes nothing.
-use borrow.Author.Rules.{rules}
 use Rattle.effects.proofs.moves.exchange_digits.Goals as goal
 
 pub returns : goal.returns

@@ -1,6 +1,5 @@
 -- `effects::moves::raise` meets its contract.
 -- Assumes nothing.
-use borrow.Author.Rules.{rules}
 use Rattle.effects.proofs.moves.raise.Goals as goal
 
 pub returns : goal.returns

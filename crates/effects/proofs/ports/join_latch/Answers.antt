@@ -1,6 +1,5 @@
 -- `effects::ports::join_latch` meets its contract.
 -- Assumes nothing.
-use borrow.Author.Rules.{rules}
 use Rattle.effects.proofs.ports.join_latch.Goals as goal
 
 pub returns-in-AnlLatch : goal.returns-in-AnlLatch

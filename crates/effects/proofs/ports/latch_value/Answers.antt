@@ -1,7 +1,6 @@
 -- `effects::ports::latch_value` meets its contract.
 -- Assumes nothing.
 use Rattle.isa.specs.Choice.{pick}
-use borrow.Author.Rules.{rules}
 use borrow.Author.Tests.{eq-eqb, ne_eqb}
 use Rattle.effects.proofs.ports.latch_value.Goals as goal
 

@@ -1,6 +1,5 @@
 -- `effects::ports::move_digit` meets its contract.
 -- Assumes nothing.
-use borrow.Author.Rules.{rules}
 use Rattle.effects.proofs.ports.move_digit.Goals as goal
 
 pub returns-in-MovdRead : goal.returns-in-MovdRead

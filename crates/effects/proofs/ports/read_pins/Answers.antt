@@ -1,7 +1,6 @@
 -- `effects::ports::read_pins` meets its contract.
 -- Assumes nothing.
 use Rattle.isa.specs.Choice.{pick}
-use borrow.Author.Rules.{rules}
 use borrow.Author.Tests.{eq-eqb, ne_eqb}
 use Rattle.effects.proofs.ports.read_pins.Goals as goal
 

@@ -1,7 +1,6 @@
 -- `flow::control::clear` meets its contract.
 -- Assumes nothing.
 use native.Mathlib.Nat.{add-zero}
-use borrow.Author.Rules.{rules}
 use Rattle.flow.proofs.control.clear.Goals as goal
 
 pub returns-in-FlagC : goal.returns-in-FlagC

@@ -1,6 +1,5 @@
 -- `flow::control::complement` meets its contract.
 -- Assumes nothing.
-use borrow.Author.Rules.{rules}
 use Rattle.flow.proofs.control.complement.Goals as goal
 
 pub returns-in-FlagC : goal.returns-in-FlagC

@@ -1,6 +1,5 @@
 -- `flow::control::enable_tcnti` meets its contract.
 -- Assumes nothing.
-use borrow.Author.Rules.{rules}
 use Rattle.flow.proofs.control.enable_tcnti.Goals as goal
 
 pub returns : goal.returns

@@ -1,6 +1,5 @@
 -- `flow::control::stand_by` meets its contract: INT's level picks the case.
 -- Assumes nothing.
-use borrow.Author.Rules.{rules}
 use borrow.Author.Tests.{ne_eqb}
 use Rattle.isa.specs.Choice.{pick}
 use Rattle.flow.proofs.control.stand_by.Goals as goal

@@ -1,7 +1,6 @@
 -- `flow::control::switch` meets its contract.
 -- Assumes nothing.
 use native.Mathlib.Nat.{add-zero}
-use borrow.Author.Rules.{rules}
 use Rattle.flow.proofs.control.switch.Goals as goal
 
 pub returns-in-EnI : goal.returns-in-EnI

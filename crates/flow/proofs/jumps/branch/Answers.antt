@@ -1,6 +1,5 @@
 -- `flow::jumps::branch` meets its contract.
 -- Assumes nothing.
-use borrow.Author.Rules.{rules}
 use Rattle.flow.proofs.jumps.branch.Goals as goal
 
 pub returns-in-Jb : goal.returns-in-Jb

@@ -1,6 +1,5 @@
 -- `flow::jumps::djnz` meets its contract.
 -- Assumes nothing.
-use borrow.Author.Rules.{rules}
 use Rattle.flow.proofs.jumps.djnz.Goals as goal
 
 pub returns : goal.returns

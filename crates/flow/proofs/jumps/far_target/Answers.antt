@@ -1,7 +1,6 @@
 -- `flow::jumps::far_target` meets its contract.
 -- Assumes nothing.
 use Rattle.isa.specs.Choice.{pick}
-use borrow.Author.Rules.{rules}
 use Rattle.flow.proofs.jumps.far_target.Goals as goal
 
 pub returns-then-upper : goal.returns-then-upper

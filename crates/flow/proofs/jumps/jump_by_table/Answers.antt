@@ -2,7 +2,6 @@
 -- Assumes nothing.
 use Rattle.isa.specs.Choice.{pick}
 use Rattle.machine.proofs.Seeing.{found-lacking, found-byte}
-use borrow.Author.Rules.{rules}
 use Rattle.flow.proofs.jumps.jump_by_table.Goals as goal
 
 pub returns-then-b : goal.returns-then-b

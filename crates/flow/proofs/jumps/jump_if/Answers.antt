@@ -1,7 +1,6 @@
 -- `flow::jumps::jump_if` meets its contract.
 -- Assumes nothing.
 use Rattle.isa.specs.Choice.{pick}
-use borrow.Author.Rules.{rules}
 use Rattle.flow.proofs.jumps.jump_if.Goals as goal
 
 pub returns-then-taken : goal.returns-then-taken

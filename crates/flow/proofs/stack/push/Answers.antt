@@ -1,9 +1,7 @@
 -- `flow::stack::push` meets its contract.
 -- Assumes nothing.
-use mathlib.Core.Path.{◌∙◌}
 use Rattle.effects.specs.Effect.{written}
 use Rattle.flow.specs.Stack.{pushed}
-use borrow.Author.Rules.{rules}
 use Rattle.flow.proofs.stack.push.Goals as goal
 
 pub returns : goal.returns

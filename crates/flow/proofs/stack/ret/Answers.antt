@@ -3,7 +3,6 @@
 use Prim.Native.Nat.{◌%◌}
 use mathlib.Core.Path.{◌≡◌}
 use native.Mathlib.Omega.{arith}
-use borrow.Author.Rules.{rules}
 use Rattle.flow.proofs.stack.ret.Goals as goal
 
 pub returns : goal.returns

@@ -1,6 +1,5 @@
 -- `isa::decode::made` meets its contract: each arm is the row of its number.
 -- Assumes nothing.
-use borrow.Author.Rules.{rules}
 use Rattle.isa.proofs.Arms.{arm, last}
 use Rattle.isa.proofs.decode.made.Goals as goal
 

@@ -1,6 +1,5 @@
 -- `isa::table::opcodes` meets its contract: the constant is the sheet's table for Intel, computed, and with two entries more for NEC.
 -- Assumes nothing.
-use borrow.Author.Rules.{rules}
 use mathlib.Core.Path.{refl}
 use Rattle.isa.specs.Choice.{pick}
 use Rattle.isa.specs.Sheet.{kind_of, entry_of}

@@ -3,7 +3,6 @@
 use Prim.Native.Nat.{◌+◌, ◌/◌, ◌%◌}
 use mathlib.Core.Path.{◌≡◌}
 use native.Mathlib.Omega.{arith}
-use borrow.Author.Rules.{rules}
 use Rattle.machine.proofs.cycle.count_cycle.Goals as goal
 
 pub returns-then-next-lt-DIVIDER_LIMIT : goal.returns-then-next-lt-DIVIDER_LIMIT

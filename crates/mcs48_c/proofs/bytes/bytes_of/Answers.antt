@@ -3,7 +3,6 @@
 use mathlib.Core.Bool.{Bool, true, false}
 use mathlib.Core.Path.{◌≡◌, refl}
 use mir.Val.{bool_byte}
-use borrow.Author.Rules.{rules}
 use Rattle.isa.specs.Choice.{one_if}
 use Rattle.mcs48_c.specs.Bytes.{bytes_of}
 use Rattle.mcs48_c.proofs.bytes.bytes_of.Goals as goal

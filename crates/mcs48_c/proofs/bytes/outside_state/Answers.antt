@@ -1,6 +1,5 @@
 -- `mcs48_c::bytes::outside_state` meets its contract.
 -- Assumes nothing.
-use borrow.Author.Rules.{rules}
 use Rattle.mcs48_c.proofs.bytes.outside_state.Goals as goal
 
 pub returns : goal.returns

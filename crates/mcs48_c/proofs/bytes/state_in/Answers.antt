@@ -1,6 +1,5 @@
 -- `mcs48_c::bytes::state_in` meets its contract.
 -- Assumes nothing.
-use borrow.Author.Rules.{rules}
 use Rattle.mcs48_c.proofs.bytes.state_in.Goals as goal
 
 pub returns : goal.returns

@@ -1,6 +1,5 @@
 -- `mcs48_c::bytes::state_of` meets its contract.
 -- Assumes nothing.
-use borrow.Author.Rules.{rules}
 use borrow.Author.Tests.{eq-eqb, ne_eqb}
 use Rattle.isa.specs.Choice.{pick}
 use Rattle.mcs48_c.specs.Bytes.{state_of}

@@ -2,7 +2,6 @@
 -- Assumes nothing.
 use mathlib.Core.Path.{refl}
 use native.Mathlib.Omega.{arith}
-use borrow.Author.Rules.{rules}
 use Rattle.mcs48_c.specs.Packed.{packed}
 use Rattle.mcs48_c.proofs.packing.pack.Goals as goal
 

@@ -1,6 +1,5 @@
 -- `mcs48_c::packing::pack_event` meets its contract: an arm for each kind of event.
 -- Assumes nothing.
-use borrow.Author.Rules.{rules}
 use Rattle.mcs48_c.proofs.packing.pack_event.Goals as goal
 
 pub returns-in-Quiet : goal.returns-in-Quiet

@@ -1,6 +1,5 @@
 -- `mcs48_c::packing::pack_refusal` meets its contract.
 -- Assumes nothing.
-use borrow.Author.Rules.{rules}
 use Rattle.mcs48_c.proofs.packing.pack_refusal.Goals as goal
 
 pub returns : goal.returns

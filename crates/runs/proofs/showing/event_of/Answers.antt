@@ -1,7 +1,6 @@
 -- `runs::showing::event_of` meets its contract: each `return` is what a group of codes shows.
 -- Assumes nothing.
 use native.Mathlib.Omega.{arith}
-use borrow.Author.Rules.{rules}
 use borrow.Author.Tests.{eq-eqb, ne_eqb}
 use Rattle.isa.specs.Choice.{pick}
 use Rattle.runs.proofs.Shows.{event-shown}

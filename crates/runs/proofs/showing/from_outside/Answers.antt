@@ -2,7 +2,6 @@
 -- Assumes nothing.
 use mathlib.Core.Path.{sym, ap, ◌∙◌}
 use native.Mathlib.Omega.{arith}
-use borrow.Author.Rules.{rules}
 use Rattle.machine.specs.Rom.{fetched}
 use Rattle.machine.specs.declared.rom.Byte.{Byte}
 use Rattle.chip.specs.Outside.{counted_outside}

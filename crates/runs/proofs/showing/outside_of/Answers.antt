@@ -1,7 +1,6 @@
 -- `runs::showing::outside_of` meets its contract.
 -- Assumes nothing.
 use native.Mathlib.Omega.{arith}
-use borrow.Author.Rules.{rules}
 use borrow.Author.Tests.{eq-eqb, ne_eqb}
 use native.Mathlib.Nat.{add-zero}
 use Rattle.isa.specs.Choice.{pick}

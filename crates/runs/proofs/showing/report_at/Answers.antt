@@ -2,7 +2,6 @@
 -- Assumes nothing.
 use native.Mathlib.Omega.{arith}
 use mathlib.Core.Path.{refl}
-use borrow.Author.Rules.{rules}
 use Rattle.machine.specs.Rom.{both}
 use Rattle.chip.proofs.Fetches.{entry-is}
 use Rattle.runs.proofs.Shows.{shows}

@@ -4,7 +4,6 @@ use Prim.Native.Nat.{ℕ}
 use native.Mathlib.Omega.{arith}
 use mathlib.Core.Path.{◌≡◌, subst}
 use mathlib.Core.List.{List}
-use borrow.Author.Rules.{rules}
 use Rattle.machine.specs.Rom.{Roms, both}
 use Rattle.machine.specs.declared.State.{State}
 use Rattle.chip.specs.Step.{course_by, course}
