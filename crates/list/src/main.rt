@@ -1,41 +1,67 @@
 #![tactic(auto)]
 // Lists the program on standard input, line by line, by Intel's set: at most 4,096 bytes, or `refused 1`.
+ghost use Rattle.std.specs.Prelude.{◌≤◌, length, IfOk};
+
 use isa::{PROGRAM_LIMIT, Refusal, Set};
-use libc::{STDIN_FILENO, STDOUT_FILENO};
 use listing::{LINE_BYTES, Listed};
+use std::io::{self, ErrorKind, Read, Write};
+
+// One read. One that a signal interrupts is made again, 2^64 - 1 times at most.
+fn read_some<R: Read>(input: &mut R, buffer: &mut [u8]) -> io::Result<usize>
+    ensures { IfOk result (λ n. n ≤ length buffer.new) }
+{
+    for _ in 0..u64::MAX {
+        match input.read(buffer) {
+            Err(e) if e.kind() == ErrorKind::Interrupted => {}
+            answer => return answer,
+        }
+    }
+    input.read(buffer)
+}
+
+// Reads until the buffer is full or the input ends, and returns how many bytes it put at the buffer's start.
+fn read_full<R: Read>(input: &mut R, buffer: &mut [u8]) -> io::Result<usize>
+    ensures { IfOk result (λ n. n ≤ length buffer.new) }
+{
+    let mut done = 0;
+    while done < buffer.len() {
+        let n = read_some(input, &mut buffer[done..])?;
+        if n == 0 {
+            break;
+        }
+        done += n;
+    }
+    Ok(done)
+}
 
 // Prints `refused 1` for a program that is too long. No other refusal has a text: each line is asked for at an address that the program has,
 // with a buffer that is long enough, so there is none.
-fn write_refusal(r: Refusal) {
+fn write_refusal<W: Write>(output: &mut W, r: Refusal) -> io::Result<()> {
     match r {
-        Refusal::ProgramLength => {
-            io::write_all(STDOUT_FILENO, b"refused 1\n");
-        }
-        _ => {}
+        Refusal::ProgramLength => output.write_all(b"refused 1\n"),
+        _ => Ok(()),
     }
 }
 
 // Prints a program's lines, each from where the bytes end that the one before shows.
-fn write_lines(program: &[u8]) {
+fn write_lines<W: Write>(output: &mut W, program: &[u8]) -> io::Result<()> {
     let mut line = [0u8; LINE_BYTES];
     let mut at = 0;
     while at < program.len() {
         match listing::line(Set::Intel, program, at, &mut line) {
             Listed::Printed(n, size) => {
-                io::write_all(STDOUT_FILENO, &line[..n]);
+                output.write_all(&line[..n])?;
                 at += size as usize;
             }
-            Listed::Unlisted(r) => {
-                write_refusal(r);
-                return;
-            }
+            Listed::Unlisted(r) => return write_refusal(output, r),
         }
     }
+    Ok(())
 }
 
 // Reads one byte more than a program may have, so that a longer one is seen.
-fn main() {
+fn main(rt: HostRuntime) -> io::Result<()> {
     let mut program = [0u8; PROGRAM_LIMIT + 1];
-    let n = io::read_full(STDIN_FILENO, &mut program);
-    write_lines(&program[..n]);
+    let n = read_full(&mut rt.stdin(), &mut program)?;
+    write_lines(&mut rt.stdout(), &program[..n])
 }
