@@ -5,9 +5,10 @@ kit_tools() {
     echo "${RATTLE_HOME:-$(dirname "$(readlink -f "$(command -v rt)")")/..}/on/$(uname -m)/toolchain"
 }
 
-# program NAME: runs the proved program NAME.
+# program NAME: runs the proved program NAME, target/bin/NAME, made where it is missing.
 program() {
     local tools
+    [ -e "target/bin/$1" ] || make_program "$1" || return
     tools=$(kit_tools)
     if [ -x "$tools/bin/qemu-x86_64" ]; then
         "$tools/bin/qemu-x86_64" "$tools/lib/ld-linux-x86-64.so.2" --library-path "$tools/lib" "target/bin/$1"
@@ -16,13 +17,28 @@ program() {
     fi
 }
 
-# make_library NAME: target/staticlib/libNAME.a, proved and made where it is missing, as it is after rt ci.
-make_library() {
-    local said
-    [ -e "target/staticlib/lib$1.a" ] || said=$(rt staticlib "$1" 2>&1) || {
-        echo "$said"
+# make_program NAME: target/bin/NAME, proved and made anew.
+make_program() {
+    mkdir -p target/bin
+    (cd "crates/$1" && rt run </dev/null) >"target/$1.log" 2>&1 && cp "crates/$1/out/$1" target/bin/ || {
+        cat "target/$1.log" >&2
         return 1
     }
+}
+
+# make_library NAME [CRATE]: target/staticlib/libNAME.a, proved and made anew; CRATE is the static library that it comes from, NAME if left out.
+make_library() {
+    local crate=${2:-$1}
+    mkdir -p target/staticlib
+    (cd "crates/$crate" && rt lib) >"target/$1.log" 2>&1 && cp "crates/$crate/out/lib$crate.a" "target/staticlib/lib$1.a" || {
+        cat "target/$1.log" >&2
+        return 1
+    }
+}
+
+# make_archive: target/staticlib/libmcs48_c.a, what C links; the crate mcs48_c_c exports it.
+make_archive() {
+    make_library mcs48_c mcs48_c_c
 }
 
 # need COMMAND PACKAGE..: installs Debian's packages where the command is missing.
