@@ -64,13 +64,15 @@ fn decimal_adjust(s: State) -> State
     let ac = s.psw / 64 % 2;
     // "If the contents of bits 0-3 are greater than nine, or if AC is one, the accumulator is incremented by six."
     let low = a % 16;
-    if (9 < low) | (ac == 1) {
+    let first = (9 < low) | (ac == 1);
+    if first {
         a += 6;
     }
     // "The four high-order bits are then checked. If bits 4-7 exceed nine, or if C is one, these bits are increased by six."
     // A carry of the first correction counts: FA has become 100 hex, and its high digit is 16 and not 0.
     let high = a / 16;
-    if (9 < high) | (c == 1) {
+    let second = (9 < high) | (c == 1);
+    if second {
         a += 6 * 16;
         return with_a_and_c(s, (a % 256) as u8, 1);
     }

@@ -119,7 +119,8 @@ fn tick(
         };
     }
     let d = count_cycle(counting, c, t1, enabled);
-    if cycles == 2 {
+    let two = cycles == 2;
+    if two {
         return count_cycle(counting, d, second / pins::T1 % 2 == 1, enabled);
     }
     d

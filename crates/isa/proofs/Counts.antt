@@ -19,7 +19,7 @@ pub record Counts : Type 0 where
   pub one_byte : ℕ
   pub two_bytes : ℕ
   pub one_cycle : ℕ
-  pub two-cycles : ℕ
+  pub two_cycles : ℕ
   pub undefined : List ℕ
 
 -- HALT and STOP have one byte and one cycle each; Intel leaves their codes, 01 and 82, undefined.
@@ -30,7 +30,7 @@ counts Intel =
       one_byte = 164;
       two_bytes = 66;
       one_cycle = 133;
-      two-cycles = 97;
+      two_cycles = 97;
       undefined =
           0x01 ∷ 0x06 ∷ 0x0B ∷ 0x22 ∷ 0x33 ∷ 0x38 ∷ 0x3B ∷ 0x63 ∷ 0x66 ∷ 0x73 ∷ 0x82 ∷ 0x87 ∷ 0x8B
           ∷ 0x9B ∷ 0xA2 ∷ 0xA6 ∷ 0xB7 ∷ 0xC0 ∷ 0xC1 ∷ 0xC2 ∷ 0xC3 ∷ 0xD6 ∷ 0xE0 ∷ 0xE1 ∷ 0xE2 ∷ 0xF3 ∷ [];
@@ -41,7 +41,7 @@ counts Nec =
       one_byte = 166;
       two_bytes = 66;
       one_cycle = 135;
-      two-cycles = 97;
+      two_cycles = 97;
       undefined =
           0x06 ∷ 0x0B ∷ 0x22 ∷ 0x33 ∷ 0x38 ∷ 0x3B ∷ 0x63 ∷ 0x66 ∷ 0x73 ∷ 0x87 ∷ 0x8B
           ∷ 0x9B ∷ 0xA2 ∷ 0xA6 ∷ 0xB7 ∷ 0xC0 ∷ 0xC1 ∷ 0xC2 ∷ 0xC3 ∷ 0xD6 ∷ 0xE0 ∷ 0xE1 ∷ 0xE2 ∷ 0xF3 ∷ [];
@@ -65,7 +65,7 @@ counted set =
       one_byte = length (codes (of_bytes set 1) 256 0);
       two_bytes = length (codes (of_bytes set 2) 256 0);
       one_cycle = length (codes (of_cycles set 1) 256 0);
-      two-cycles = length (codes (of_cycles set 2) 256 0);
+      two_cycles = length (codes (of_cycles set 2) 256 0);
       undefined = codes (of_bytes set 0) 256 0;
     }
 

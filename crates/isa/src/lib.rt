@@ -243,10 +243,12 @@ fn decoded_at(set: Set, program: &[u8], pc: u16, code: u8) -> Decoded
 pub fn read(set: Set, program: &[u8], address: usize) -> Decoded
     ensures { read_as result ≡ read_of (under set program.now) address }
 {
-    if PROGRAM_LIMIT < program.len() {
+    let long = PROGRAM_LIMIT < program.len();
+    if long {
         return Decoded::Unread(Refusal::ProgramLength);
     }
-    if program.len() <= address {
+    let past = program.len() <= address;
+    if past {
         return Decoded::Unread(Refusal::PastEnd);
     }
     decoded_at(set, program, address as u16, program[address])

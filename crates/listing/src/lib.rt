@@ -66,7 +66,8 @@ fn put_hex3(l: Draft, v: u16) -> Draft
 fn put_lead(l: Draft, v: u8) -> Draft
     ensures { Adds l (lead v) result }
 {
-    if v < 10 { l } else { push(l, b'0') }
+    let small = v < 10;
+    if small { l } else { push(l, b'0') }
 }
 
 fn put_byte(l: Draft, v: u8) -> Draft
@@ -216,7 +217,8 @@ fn show(set: Set, program: &[u8], a: u16) -> Ready
     let bytes = e.bytes;
     let kind = e.kind;
     if bytes == 2 {
-        if at % 2048 < 2047 {
+        let whole = at % 2048 < 2047;
+        if whole {
             if at + 1 < program.len() {
                 let d = program[at + 1];
                 return Ready {

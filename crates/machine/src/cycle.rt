@@ -13,7 +13,8 @@ pub fn count_cycle(counting: Counting, c: Count, t1: bool, enabled: bool) -> Cou
         Counting::Timer => {
             let next = c.divider as u16 + 1;
             // The usual cycle leaves T alone, and so leaves here.
-            if next < State::DIVIDER_LIMIT {
+            let early = next < State::DIVIDER_LIMIT;
+            if early {
                 return keep(c, next as u8, t1);
             }
             advance(

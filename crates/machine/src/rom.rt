@@ -23,7 +23,8 @@ pub fn fetch(program: &[u8], outside: &[u8], ea: bool, address: u16) -> Byte
 {
     let at = address as usize;
     // Two tests, one within the other: both as one condition cost time (docs/PERFORMANCE.md).
-    if !ea {
+    let inside = !ea;
+    if inside {
         if at < program.len() {
             return Byte {
                 memory: Memory::Internal,
@@ -32,7 +33,8 @@ pub fn fetch(program: &[u8], outside: &[u8], ea: bool, address: u16) -> Byte
             };
         }
     }
-    if outside.len() <= at {
+    let lacking = outside.len() <= at;
+    if lacking {
         return Byte {
             memory: Memory::External,
             lacking: true,

@@ -131,7 +131,8 @@ fn run_lent(
     let p = runs::play(named, program, outside, ram, start, samples, asked);
     let r = p.ran;
     let shown = p.shown;
-    if r.used != 0 {
+    let used = r.used != 0;
+    if used {
         bytes::hold(state, r.state);
     }
     Spent {

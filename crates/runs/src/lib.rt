@@ -151,7 +151,8 @@ fn shown_ahead(
     requires admitted { lent_of (both set program.now outside.now) ram.now s ≡ 0 }
     ensures { first_accepted (both set program.now outside.now) ram.now s samples.now ≡ true → result ≡ pick asked (first_shown (both set program.now outside.now) ram.now s samples.now) unshown }
 {
-    if !asked {
+    let unasked = !asked;
+    if unasked {
         return nothing_shown();
     }
     if samples.len() < 2 {
@@ -198,7 +199,8 @@ pub fn play(
     );
     let ran = run_on(set, &table, program, outside, ram, state, samples);
     // Every step that is accepted uses a sample: the first was refused, or there was none.
-    if ran.used == 0 {
+    let nothing = ran.used == 0;
+    if nothing {
         return Played {
             ran,
             shown: nothing_shown(),

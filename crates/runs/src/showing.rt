@@ -73,11 +73,13 @@ fn outside_of(code: u8, bytes: u8, program: &[u8], outside: &[u8], ea: bool, s: 
     ensures { result ≡ outside_among program.now ea (s.pc ∷ pick (eqb bytes 2) (next_pc s.pc ∷ []) (table_bytes code s.pc s.a)) }
 {
     let first = from_outside(program, outside, ea, s.pc);
-    if bytes == 2 {
+    let two = bytes == 2;
+    if two {
         return first + from_outside(program, outside, ea, isa::next_pc(s.pc));
     }
     // MOVP
-    if code == 0xA3 {
+    let movp = code == 0xA3;
+    if movp {
         return first + from_outside(program, outside, ea, pages::movp_address(s.pc, s.a));
     }
     // JMPP

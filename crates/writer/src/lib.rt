@@ -28,7 +28,8 @@ fn coded_low(base: u8, low: u8, high: u8, k: u8) -> Encoded
     if k < low {
         return Encoded::Unwritten(Refusal::OperandTooLarge);
     }
-    if high < k {
+    let large = high < k;
+    if large {
         return Encoded::Unwritten(Refusal::OperandTooLarge);
     }
     Encoded::One(base + k)
@@ -39,7 +40,8 @@ fn coded_high(base: u8, k: u8) -> Encoded
     requires { base < 32 }
     ensures { result ≡ coded_high base k }
 {
-    if 7 < k {
+    let large = 7 < k;
+    if large {
         return Encoded::Unwritten(Refusal::OperandTooLarge);
     }
     Encoded::One(base + 32 * k)

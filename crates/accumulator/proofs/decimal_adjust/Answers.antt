@@ -1,16 +1,17 @@
 -- `accumulator::decimal_adjust` meets its contract: after the first correction a is document 01's v, and the manual's second test is the
 -- definition's.
 -- Assumes nothing.
-use Prim.Native.Nat.{ℕ, ◌/◌}
-use mathlib.Core.Bool.{Bool, true, false}
+use Prim.Native.Nat.{ℕ, ◌+◌, ◌/◌, ◌%◌}
+use mathlib.Core.Bool.{Bool, true, false, ◌||◌}
 use mathlib.Core.Path.{◌≡◌, refl, sym}
 use native.Mathlib.Omega.{arith}
-use lib.Dec.{ltb, leb}
+use lib.Dec.{eqb, ltb, leb}
 use borrow.Author.Tests.{leb-true, leb-false, lt-ltb, le-ltb}
 use Rattle.isa.specs.Choice.{pick}
+use Rattle.machine.specs.Psw.{bit_ac}
 use Rattle.accumulator.specs.Accumulator.{low_adjusted}
 use Rattle.accumulator.proofs.decimal_adjust.Goals as goal
-use Rattle.accumulator.proofs.decimal_adjust.Goals.{then-low-ac, else-low-ac}
+use Rattle.accumulator.proofs.decimal_adjust.Goals.{then-first, else-first}
 
 -- The manual's "bits 4-7 exceed nine", a carry above them counted, is document 01's "at least A0 hex".
 above-nine : (v : ℕ) → leb 0xA0 v ≡ ltb 9 (v / 16)
@@ -21,16 +22,22 @@ above-nine v = go (leb 0xA0 v) refl
     go false e = sym (le-ltb 9 (v / 16) (omega (arith, leb-false 0xA0 v e)))
 
 -- Where the two ways past the first correction meet, a is v.
-pub returns-then-high-c : goal.returns-then-high-c
+low-adjusted :
+    (v psw a : ℕ) (first : Bool) → (ltb 9 (v % 16) || eqb (bit_ac psw) 1) ≡ first → a ≡ pick first (v + 6) v → low_adjusted v psw ≡ a
 unfolding pick
-returns-then-high-c c =
-    let met : low_adjusted c.args.s.a c.args.s.psw ≡ c.if-low-ac.a =
-    elim c.if-low-ac.branch [ then-low-ac w ↦ simp (w.a-is, w.if-low-ac.true) | else-low-ac w ↦ simp (w.a-is, w.if-low-ac.false) ] in
-    simp (c.with_a_and_c.ensures, met, above-nine c.if-low-ac.a, c.if-high-c.true)
+low-adjusted v psw a true t e = rw t (sym e)
+low-adjusted v psw a false t e = rw t (sym e)
+
+pub returns-then-second : goal.returns-then-second
+unfolding pick
+returns-then-second c =
+    let met : low_adjusted c.args.s.a c.args.s.psw ≡ c.if-first.a =
+    elim c.if-first.branch [ then-first w ↦ low-adjusted _ _ _ true w.if-first.true w.a-is | else-first w ↦ low-adjusted _ _ _ false w.if-first.false w.a-is ] in
+    simp (c.with_a_and_c.ensures, met, above-nine c.if-first.a, c.if-second.true)
 
 pub returns : goal.returns
 unfolding pick
 returns c =
-    let met : low_adjusted c.args.s.a c.args.s.psw ≡ c.if-low-ac.a =
-    elim c.if-low-ac.branch [ then-low-ac w ↦ simp (w.a-is, w.if-low-ac.true) | else-low-ac w ↦ simp (w.a-is, w.if-low-ac.false) ] in
-    simp (c.with_a.ensures, met, above-nine c.if-low-ac.a, c.if-high-c.false)
+    let met : low_adjusted c.args.s.a c.args.s.psw ≡ c.if-first.a =
+    elim c.if-first.branch [ then-first w ↦ low-adjusted _ _ _ true w.if-first.true w.a-is | else-first w ↦ low-adjusted _ _ _ false w.if-first.false w.a-is ] in
+    simp (c.with_a.ensures, met, above-nine c.if-first.a, c.if-second.false)

@@ -10,10 +10,10 @@ pub returns-then-fresh : goal.returns-then-fresh
 unfolding ticked pick
 returns-then-fresh c = rw (ne_eqb c.args.cycles 0 (λ z. omega (arith, z, c.requires)), c.if-fresh.true)
 
-pub returns-then-cycles-eq2 : goal.returns-then-cycles-eq2
+pub returns-then-two : goal.returns-then-two
 unfolding ticked pick
-returns-then-cycles-eq2 c = rw (ne_eqb c.args.cycles 0 (λ z. omega (arith, z, c.requires)), c.count_cycle.ensures, c.if-fresh.false, ← c.count_cycle-d.ensures, eq-eqb _ _ c.if-cycles-eq2.true)
+returns-then-two c = rw (ne_eqb c.args.cycles 0 (λ z. omega (arith, z, c.requires)), c.count_cycle.ensures, c.if-fresh.false, ← c.count_cycle-d.ensures, eq-eqb _ _ c.if-two.true)
 
 pub returns : goal.returns
 unfolding ticked pick
-returns c = rw (ne_eqb c.args.cycles 0 (λ z. omega (arith, z, c.requires)), c.if-fresh.false, ← c.count_cycle-d.ensures, ne_eqb _ _ c.if-cycles-eq2.false)
+returns c = rw (ne_eqb c.args.cycles 0 (λ z. omega (arith, z, c.requires)), c.if-fresh.false, ← c.count_cycle-d.ensures, ne_eqb _ _ c.if-two.false)

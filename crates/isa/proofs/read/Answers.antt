@@ -5,15 +5,15 @@ use Rattle.isa.specs.Choice.{pick}
 use Rattle.isa.specs.Reading.{read_of, instruction_at}
 use Rattle.isa.proofs.read.Goals as goal
 
-pub returns-then-program-gt-PROGRAM_LIMIT : goal.returns-then-program-gt-PROGRAM_LIMIT
+pub returns-then-long : goal.returns-then-long
 unfolding read_of instruction_at pick
-returns-then-program-gt-PROGRAM_LIMIT c = simp (lt-ltb _ _ c.if-program-gt-PROGRAM_LIMIT.true)
+returns-then-long c = simp (lt-ltb _ _ c.if-long.true)
 
-pub returns-then-program-address : goal.returns-then-program-address
+pub returns-then-past : goal.returns-then-past
 unfolding read_of instruction_at pick
-returns-then-program-address c = simp (le-ltb _ _ c.if-program-gt-PROGRAM_LIMIT.false, le-leb _ _ c.if-program-address.true)
+returns-then-past c = simp (le-ltb _ _ c.if-long.false, le-leb _ _ c.if-past.true)
 
 pub returns : goal.returns
 unfolding read_of instruction_at pick
 returns c =
-    simp (le-ltb _ _ c.if-program-gt-PROGRAM_LIMIT.false, lt-leb _ _ c.if-program-address.false, c.decoded_at.ensures)
+    simp (le-ltb _ _ c.if-long.false, lt-leb _ _ c.if-past.false, c.decoded_at.ensures)

@@ -8,12 +8,12 @@ use borrow.Author.Tests.{lt-ltb, le-ltb}
 use Rattle.listing.proofs.Drafts.{kept}
 use Rattle.listing.proofs.put_lead.Goals as goal
 
-pub returns-then-v-lt10 : goal.returns-then-v-lt10
+pub returns-then-small : goal.returns-then-small
 unfolding pick
-returns-then-v-lt10 c =
+returns-then-small c =
     let whole : length c.args.l.bytes ≡ 32 = search rules in
-    simp (lt-ltb _ _ c.if-v-lt10.true) (kept c.args.l whole)
+    simp (lt-ltb _ _ c.if-small.true) (kept c.args.l whole)
 
-pub returns-else-v-lt10 : goal.returns-else-v-lt10
+pub returns-else-small : goal.returns-else-small
 unfolding pick
-returns-else-v-lt10 c = simp (le-ltb _ _ c.if-v-lt10.false) c.push.ensures
+returns-else-small c = simp (le-ltb _ _ c.if-small.false) c.push.ensures

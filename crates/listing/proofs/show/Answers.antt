@@ -7,7 +7,7 @@ use borrow.Author.Tests.{lt-ltb, le-ltb, ne_eqb}
 use Rattle.listing.specs.Listing.{line_at, size_at}
 use Rattle.listing.proofs.Texts.{kind-small}
 use Rattle.listing.proofs.show.Goals as goal
-use Rattle.listing.proofs.show.Goals.{then-at-lt2047+else-at-program, else-at-lt2047}
+use Rattle.listing.proofs.show.Goals.{then-whole+else-at-program, else-whole}
 
 pub line_two-requires : goal.line_two-requires
 line_two-requires c =
@@ -17,17 +17,17 @@ line_two-requires c =
 pub returns-then-at-program : goal.returns-then-at-program
 unfolding line_at size_at pick
 returns-then-at-program c =
-    simp (sym c.entry_of-e.ensures, c.if-bytes-eq2.true, lt-ltb _ _ c.if-at-lt2047.true, lt-ltb _ _ c.if-at-program.true)
+    simp (sym c.entry_of-e.ensures, c.if-bytes-eq2.true, lt-ltb _ _ c.if-whole.true, lt-ltb _ _ c.if-at-program.true)
     (c.line_two.ensures, refl)
 
 pub returns-then-bytes-eq2 : goal.returns-then-bytes-eq2
 unfolding line_at size_at pick
 returns-then-bytes-eq2 c =
-    elim c.if-at-lt2047.branch [
-      | then-at-lt2047+else-at-program w ↦
-          simp (sym c.entry_of-e.ensures, c.if-bytes-eq2.true, lt-ltb _ _ w.if-at-lt2047.true, le-ltb _ _ w.if-at-program.false) (c.line_one.ensures, refl)
-      | else-at-lt2047 w ↦
-          simp (sym c.entry_of-e.ensures, c.if-bytes-eq2.true, le-ltb _ _ w.if-at-lt2047.false) (c.line_one.ensures, refl)
+    elim c.if-whole.branch [
+      | then-whole+else-at-program w ↦
+          simp (sym c.entry_of-e.ensures, c.if-bytes-eq2.true, lt-ltb _ _ w.if-whole.true, le-ltb _ _ w.if-at-program.false) (c.line_one.ensures, refl)
+      | else-whole w ↦
+          simp (sym c.entry_of-e.ensures, c.if-bytes-eq2.true, le-ltb _ _ w.if-whole.false) (c.line_one.ensures, refl)
     ]
 
 pub line_one-requires-then-bytes-eq1 : goal.line_one-requires-then-bytes-eq1

@@ -21,9 +21,9 @@ returns-in_default c =
     )
     record { answer = refl; memory = refl; left = refl }
 
-pub returns-then-r-ne0 : goal.returns-then-r-ne0
+pub returns-then-used : goal.returns-then-used
 unfolding pick
-returns-then-r-ne0 c =
+returns-then-used c =
     let e = c.state_of-start.ensures in
     let r = c.play-p.ensures in
     let q = ap (λ (p : Played). p.ran) r.answer in
@@ -31,14 +31,14 @@ returns-then-r-ne0 c =
     record {
       answer = rw (r.answer, e);
       memory = rw (← e) r.memory;
-      left = rw (← e, ← q, ne_eqb _ _ c.if-r-ne0.true) c.hold.ensures;
+      left = rw (← e, ← q, ne_eqb _ _ c.if-used.true) c.hold.ensures;
     }
 
-pub returns-else-r-ne0 : goal.returns-else-r-ne0
+pub returns-else-used : goal.returns-else-used
 unfolding pick
-returns-else-r-ne0 c =
+returns-else-used c =
     let e = c.state_of-start.ensures in
     let r = c.play-p.ensures in
     let q = ap (λ (p : Played). p.ran) r.answer in
     rw (known c.set_named.ensures c.in-Known.is)
-    record { answer = rw (r.answer, e); memory = rw (← e) r.memory; left = rw (← e, ← q, eq-eqb _ _ c.if-r-ne0.false) }
+    record { answer = rw (r.answer, e); memory = rw (← e) r.memory; left = rw (← e, ← q, eq-eqb _ _ c.if-used.false) }

@@ -15,14 +15,14 @@ returns-then-number-ne0 c =
     let z = c.if-number-ne0.true in
     record { answer = rw (← e, ne_eqb _ _ z, c.nothing_shown.ensures, lent-unshown (both a.set a.program.now a.outside.now) a.ram.now a.state a.samples.now (rw e at z), same-or-none a.asked unshown); memory = rw (← e, ne_eqb _ _ z) }
 
-pub returns-then-ran-eq0 : goal.returns-then-ran-eq0
+pub returns-then-nothing : goal.returns-then-nothing
 unfolding run_of pick
-returns-then-ran-eq0 c =
+returns-then-nothing c =
     let a = c.args in
     let e = c.lent_number-number.ensures in
     let z = c.if-number-ne0.false in
     let r = c.run_on-ran.ensures in
-    record { answer = rw (← e, eq-eqb _ _ z, c.nothing_shown-then-ran-eq0.ensures, first-unshown (both a.set a.program.now a.outside.now) a.ram.now a.state a.samples.now (rw r.answer at c.if-ran-eq0.true), same-or-none a.asked unshown, r.answer); memory = rw (← e, eq-eqb _ _ z) r.memory }
+    record { answer = rw (← e, eq-eqb _ _ z, c.nothing_shown-then-nothing.ensures, first-unshown (both a.set a.program.now a.outside.now) a.ram.now a.state a.samples.now (rw r.answer at c.if-nothing.true), same-or-none a.asked unshown, r.answer); memory = rw (← e, eq-eqb _ _ z) r.memory }
 
 pub returns : goal.returns
 unfolding run_of pick
@@ -31,4 +31,4 @@ returns c =
     let e = c.lent_number-number.ensures in
     let z = c.if-number-ne0.false in
     let r = c.run_on-ran.ensures in
-    record { answer = rw (← e, eq-eqb _ _ z, c.shown_ahead-shown.ensures (first-taken (both a.set a.program.now a.outside.now) a.ram.now a.state a.samples.now (rw r.answer at c.if-ran-eq0.false)), r.answer); memory = rw (← e, eq-eqb _ _ z) r.memory }
+    record { answer = rw (← e, eq-eqb _ _ z, c.shown_ahead-shown.ensures (first-taken (both a.set a.program.now a.outside.now) a.ram.now a.state a.samples.now (rw r.answer at c.if-nothing.false)), r.answer); memory = rw (← e, eq-eqb _ _ z) r.memory }

@@ -8,10 +8,10 @@ pub returns-then-k-low : goal.returns-then-k-low
 unfolding pick
 returns-then-k-low c = simp (lt-leb _ _ c.if-k-low.true)
 
-pub returns-then-high-k : goal.returns-then-high-k
+pub returns-then-large : goal.returns-then-large
 unfolding pick
-returns-then-high-k c = simp (le-leb _ _ c.if-k-low.false, lt-leb _ _ c.if-high-k.true)
+returns-then-large c = simp (le-leb _ _ c.if-k-low.false, lt-leb _ _ c.if-large.true)
 
 pub returns : goal.returns
 unfolding pick
-returns c = simp (le-leb _ _ c.if-k-low.false, le-leb _ _ c.if-high-k.false)
+returns c = simp (le-leb _ _ c.if-k-low.false, le-leb _ _ c.if-large.false)
