@@ -1,12 +1,11 @@
 #![tactic(auto)]
-// The archive for C: each function of mcs48_c under its own name, with its promise.
+// The archive for C: each function of the C interface under its own name, with its promise. mcs48_c says what it does.
 ghost use Rattle.std.specs.Prelude.{◌≡◌, length};
 ghost use Rattle.machine.specs.State.{power_up};
 ghost use Rattle.mcs48_c.specs.Bytes.{holding};
 ghost use Rattle.mcs48_c.specs.Calls.{after_run, after_step, line_from, listed_from, ram_from, read_from, run_from, step_from, totals_after};
 ghost use Rattle.mcs48_c.specs.Packed.{packed_line, packed_read, packed_step};
 
-// The state after power-up, into a buffer of 24 bytes.
 #[unsafe(no_mangle)]
 pub extern "C" fn mcs48_power_up(state: &mut [u8])
     ensures { state.new ≡ holding state.old power_up }
@@ -14,8 +13,6 @@ pub extern "C" fn mcs48_power_up(state: &mut [u8])
     mcs48_c::mcs48_power_up(state)
 }
 
-// The instruction at an address: its length, and the bytes that the writer gives for it, which are those that stand there (`read-write`). A
-// call of the reader and the writer would say the same, but give the decoder a second caller (docs/PERFORMANCE.md).
 #[unsafe(no_mangle)]
 pub extern "C" fn mcs48_read(set: u32, program: &[u8], address: usize) -> u64
     ensures { result ≡ packed_read program.now address (read_from set program.now address) }
@@ -23,7 +20,6 @@ pub extern "C" fn mcs48_read(set: u32, program: &[u8], address: usize) -> u64
     mcs48_c::mcs48_read(set, program, address)
 }
 
-// One line of a listing, into a buffer.
 #[unsafe(no_mangle)]
 pub extern "C" fn mcs48_list_line(set: u32, program: &[u8], address: usize, line: &mut [u8]) -> u64
     ensures answer { result ≡ packed_line (listed_from set program.now address (length line.old)) }
@@ -32,7 +28,6 @@ pub extern "C" fn mcs48_list_line(set: u32, program: &[u8], address: usize, line
     mcs48_c::mcs48_list_line(set, program, address, line)
 }
 
-// A run over samples.
 #[unsafe(no_mangle)]
 pub extern "C" fn mcs48_run(
     set: u32,
@@ -51,7 +46,6 @@ pub extern "C" fn mcs48_run(
     mcs48_c::mcs48_run(set, program, outside, ram, state, samples, totals)
 }
 
-// One step, as a run over its two samples.
 #[unsafe(no_mangle)]
 pub extern "C" fn mcs48_step(
     set: u32,
