@@ -1,7 +1,7 @@
 SHELL = bash
 PREFIX ?= /usr/local
 ARCHIVE = target/staticlib/libmcs48_c.a
-# make: prove what has changed and build it · make demo: the night of twenty past two · make test: the gate, from nothing
+# make: prove what has changed and build it · make demo: the night of twenty past two · make test: the gate
 # make bench · make count: the instructions of a step · make list ROM=file: list a ROM · make install PREFIX=/usr/local · make fmt
 .PHONY: all archive demo test bench count list install fmt
 all: archive
