@@ -2,28 +2,20 @@
 -- Assumes nothing.
 use Prim.Native.Nat.{ℕ, ◌<◌}
 use mathlib.Core.Bool.{true, false}
-use mathlib.Core.List.{List}
-use mathlib.Core.Path.{◌≡◌, refl, ◌∙◌}
+use mathlib.Core.Path.{◌≡◌, ◌∙◌}
 use native.Mathlib.Omega.{arith}
-use lib.ListN.{get_or}
 use borrow.Author.Tests.{eq-eqb, ne_eqb}
+use Rattle.std.specs.Prelude.{Err}
 use Rattle.isa.specs.Choice.{pick}
 use Rattle.isa.specs.Numbers.{given}
 use Rattle.isa.specs.Reading.{Program, entry_at, next_pc, byte_at, instruction_at, decoded_at, sized, lacks}
-use Rattle.isa.specs.Sheet.{entry_of, instruction_of}
-use Rattle.isa.specs.Table.{packed_rows, unpacked}
+use Rattle.isa.specs.Sheet.{make_of, entry_of, instruction_of}
 use Rattle.isa.specs.declared.Instruction.{Instruction}
+use Rattle.isa.specs.declared.Refusal.TheVariants.{UndefinedCode, PastEnd}
 use Rattle.isa.specs.declared.Set.{Set}
 use Rattle.isa.specs.declared.table.Entry.{Entry}
-use Rattle.isa.proofs.Entries.{entry-held}
-use Rattle.chip.specs.Step.{Fetched}
+use Rattle.chip.specs.Step.{AsRead, Fetched}
 use Rattle.chip.specs.declared.Fetch.{Fetch}
-
--- The lent table has the sheet's entry of a code, which is the byte v.
-pub entry-is :
-    {table : List ℕ} {e : Entry} {v : ℕ} (set : Set) (b : ℕ) → table ≡ packed_rows set → b ≡ v → b < 256 → e ≡ unpacked (get_or table b 0)
-    → e ≡ entry_of set v
-entry-is set b p w h q = q ∙ rw (p, ← w) (entry-held set b h)
 
 -- A code of one byte is read as the set's instruction of that code.
 pub reads-one :
@@ -32,67 +24,45 @@ pub reads-one :
 unfolding instruction_at decoded_at pick
 reads-one program a b i l e f = rw (l, e, (f program.set).0, (f program.set).1)
 
--- A refusal.
-abbrev none : ℕ → Fetch
-none n = record { number = n; kind = 0; code = 0; second = 0; bytes = 0; next = 0; cycles = 0 }
-
 module _ (program : Program) (pc : ℕ) where
-  pub no-first : {n : ℕ} → n ≡ 5 → lacks program.bytes pc ≡ true → Fetched program pc (none n)
+  pub no-first : lacks program.bytes pc ≡ true → Fetched program pc (Err PastEnd)
   unfolding instruction_at pick
-  no-first p h =
-      record {
-        none = λ z. rw (h, p);
-        one = λ z. absurd (omega arith);
-        next = λ z. absurd (omega arith);
-        cycles = λ z. absurd (omega arith);
-      }
+  no-first h = rw h
 
   -- Below, e is the entry of the byte at pc.
   module _ (e : Entry) (is : e ≡ entry_at program pc) (there : lacks program.bytes pc ≡ false) where
-    pub undefined : {n : ℕ} → n ≡ 4 → e.bytes ≡ 0 → Fetched program pc (none n)
+    pub undefined : e.bytes ≡ 0 → Fetched program pc (Err UndefinedCode)
     unfolding instruction_at decoded_at pick
-    undefined p h =
-        record {
-          none = λ z. rw (there, ← is, eq-eqb _ _ h, p);
-          one = λ z. absurd (omega arith);
-          next = λ z. absurd (omega arith);
-          cycles = λ z. absurd (omega arith);
-        }
+    undefined h = rw (there, ← is, eq-eqb _ _ h)
 
-    pub no-second :
-        {n k : ℕ} → n ≡ 5 → (e.bytes ≡ 0 → ⊥) → (e.bytes ≡ 1 → ⊥) → k ≡ next_pc pc → lacks program.bytes k ≡ true → Fetched program pc (none n)
-    unfolding instruction_at decoded_at pick
-    no-second p h i q l =
-        record {
-          none = λ z. rw (there, ← is, ne_eqb _ _ h, ne_eqb _ _ i, ← q, l, p);
-          one = λ z. absurd (omega arith);
-          next = λ z. absurd (omega arith);
-          cycles = λ z. absurd (omega arith);
-        }
+    module _ (some : 0 < e.bytes) where
+      some-byte : e.bytes ≡ 0 → ⊥
+      some-byte z = omega (arith, some, z)
 
-    pub one_byte :
-        {b k : ℕ} → b ≡ byte_at program.bytes pc → e.bytes ≡ 1 → k ≡ next_pc pc
-        → Fetched program pc (record { number = 0; kind = e.kind; code = b; second = 0; bytes = 1; next = k; cycles = e.cycles })
-    unfolding instruction_at decoded_at pick
-    one_byte w h q =
-        let some : e.bytes ≡ 0 → ⊥ = λ z. omega arith in
-        record {
-          none = λ z. absurd (z refl);
-          one = λ z. rw (there, ← is, ne_eqb _ _ some, eq-eqb _ _ h, w);
-          next = λ z. q;
-          cycles = λ z. rw is;
-        }
+      pub no-second : {k : ℕ} → (e.bytes ≡ 1 → ⊥) → k ≡ next_pc pc → lacks program.bytes k ≡ true → Fetched program pc (Err PastEnd)
+      unfolding instruction_at decoded_at pick
+      no-second i q l = rw (there, ← is, ne_eqb _ _ some-byte, ne_eqb _ _ i, ← q, l)
 
-    pub two_bytes :
-        {b d k m : ℕ} → b ≡ byte_at program.bytes pc → d ≡ byte_at program.bytes k → (e.bytes ≡ 0 → ⊥) → (e.bytes ≡ 1 → ⊥)
-        → k ≡ next_pc pc → lacks program.bytes k ≡ false → m ≡ next_pc k
-        → Fetched program pc
-        (record { number = 0; kind = e.kind; code = b; second = d; bytes = 2; next = m; cycles = e.cycles })
-    unfolding instruction_at decoded_at pick
-    two_bytes w v h i q l r =
-        record {
-          none = λ z. absurd (z refl);
-          one = λ z. rw (there, ← is, ne_eqb _ _ h, ne_eqb _ _ i, ← q, l, w, v);
-          next = λ z. rw (r, q);
-          cycles = λ z. rw is;
-        }
+      pub one_byte :
+          {f : Fetch} {b : ℕ} → b ≡ byte_at program.bytes pc → e.bytes ≡ 1 → f.instruction ≡ make_of e.kind b 0 → f.next ≡ next_pc pc
+          → f.cycles ≡ e.cycles → AsRead program pc f
+      unfolding instruction_at decoded_at pick
+      one_byte w h i q t =
+          record {
+            bytes = 1;
+            instruction = rw (there, ← is, ne_eqb _ _ some-byte, eq-eqb _ _ h, ← w, i);
+            next = q;
+            cycles = t ∙ rw is;
+          }
+
+      pub two_bytes :
+          {f : Fetch} {b k d : ℕ} → b ≡ byte_at program.bytes pc → (e.bytes ≡ 1 → ⊥) → k ≡ next_pc pc → lacks program.bytes k ≡ false
+          → d ≡ byte_at program.bytes k → f.instruction ≡ make_of e.kind b d → f.next ≡ next_pc k → f.cycles ≡ e.cycles → AsRead program pc f
+      unfolding instruction_at decoded_at pick
+      two_bytes w h q l v i r t =
+          record {
+            bytes = 2;
+            instruction = rw (there, ← is, ne_eqb _ _ some-byte, ne_eqb _ _ h, ← q, l, ← w, ← v, i);
+            next = rw (r, q);
+            cycles = t ∙ rw is;
+          }

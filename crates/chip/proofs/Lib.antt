@@ -11,4 +11,5 @@ pub mod Overflows
 pub mod Permitted
 pub mod Runs
 pub mod Standby
+pub mod Telling
 pub mod Turns

@@ -35,8 +35,7 @@ use Rattle.execute.specs.Execute.{executed}
 use Rattle.execute.proofs.Keeping.{keeps}
 use Rattle.execute.proofs.Within.{WithinSizes, next-within, push-within, within}
 use Rattle.chip.specs.Admission.{lent_number, lent_of}
-use Rattle.chip.specs.Step.{Course, declined, accepted, released, waits, reset_state, called, without_request, pc_after, done, carried_by, carried, course, ticked, settled, moved_of, step_of, ram_after}
-use Rattle.chip.specs.declared.Moved.{Moved}
+use Rattle.chip.specs.Step.{Course, declined, accepted, released, waits, reset_state, called, without_request, pc_after, done, carried_by, carried, course, ticked, settled, moved_of, step_of, ram_after, Moved}
 use Rattle.chip.proofs.Choices.{either}
 use Rattle.chip.proofs.Cycles.{course-number, plan-state}
 use Rattle.chip.proofs.Exactly.{allowed, admitted-stands}

@@ -16,8 +16,7 @@ use Rattle.machine.specs.declared.State.{State}
 use Rattle.effects.specs.Effect.{written}
 use Rattle.chip.specs.Admission.{lent_of}
 use Rattle.chip.specs.Run.{Progress, Ended, begun, gone, turned, ended, first_shown, first_accepted, unshown, run_by, run_over}
-use Rattle.chip.specs.Step.{Plan, plan_of, moved_of, report_of, step_of, ram_after}
-use Rattle.chip.specs.declared.Moved.{Moved}
+use Rattle.chip.specs.Step.{Plan, plan_of, moved_of, report_of, step_of, ram_after, Moved}
 use Rattle.chip.specs.declared.Report.{Report}
 use Rattle.chip.proofs.Cycles.{one-or-two, cycles-used}
 use Rattle.chip.proofs.Exactly.{refused-unchanged, lent-refuses}

@@ -12,8 +12,7 @@ use Rattle.machine.specs.Rom.{Roms, fetched, seen_by}
 use Rattle.machine.specs.State.{permitted}
 use Rattle.machine.specs.declared.State.{State}
 use Rattle.chip.specs.Admission.{program_allowed, outside_allowed, ram_allowed, sample_allowed, admission}
-use Rattle.chip.specs.Step.{external_calls, timer_calls, refused_by}
-use Rattle.chip.specs.declared.Outcome.{Outcome}
+use Rattle.chip.specs.Step.{external_calls, timer_calls, refused_by, Outcome}
 
 -- The step comes to fetch: none of 1, 2, 3, 6, no reset, no wait and no interrupt call.
 pub record Fetches (roms : Roms) (ram : List ℕ) (s : State) (first second : ℕ) : Type 0 where

@@ -1,7 +1,9 @@
 -- A run is its steps, one by one.
 -- Assumes nothing.
-use Rattle.std.specs.Prelude.{ℕ, ◌+◌, Bool, false, List, [], ◌∷◌, ◌++◌, ◌≡◌, eqb}
+use Rattle.std.specs.Prelude.{ℕ, ◌+◌, Bool, false, List, [], ◌∷◌, ◌++◌, ◌≡◌, eqb, Option, Some, None}
 use Rattle.isa.specs.Choice.{pick}
+use Rattle.isa.specs.Numbers.{number_of}
+use Rattle.isa.specs.declared.Refusal.{Refusal}
 use Rattle.machine.specs.Rom.{Roms}
 use Rattle.machine.specs.declared.State.{State}
 use Rattle.effects.specs.Effect.{written}
@@ -9,8 +11,8 @@ use Rattle.effects.specs.declared.Event.{Event}
 use Rattle.effects.specs.declared.Event.TheVariants.{Quiet}
 use Rattle.chip.specs.Admission.{lent_of}
 use Rattle.chip.specs.Step.{Plan, plan_of, report_of, step_of}
-use Rattle.chip.specs.declared.Played.{Played}
-use Rattle.chip.specs.declared.Ran.{Ran}
+use Rattle.chip.specs.declared.Played as code_played
+use Rattle.chip.specs.declared.Ran as code_ran
 use Rattle.chip.specs.declared.Report.{Report}
 
 -- How far a run has come: the RAM, the state, the samples used, the cycles spent, and the events of its steps in order.
@@ -34,6 +36,13 @@ gone m p =
       cycles = m.cycles + p.cycles;
       events = m.events ++ (p.event ∷ []);
     }
+
+-- What a run returns: the number that ended it, 0 if samples ran out, the state, the samples used and the machine cycles spent.
+pub record Ran : Type 0 where
+  pub number : ℕ
+  pub state : State
+  pub used : ℕ
+  pub cycles : ℕ
 
 -- What a run returns, the RAM that it leaves, and the events of its steps in order.
 pub record Ended : Type 0 where
@@ -99,10 +108,26 @@ first_accepted roms ram s [] = false
 first_accepted roms ram s (x ∷ []) = false
 first_accepted roms ram s (x ∷ (y ∷ rest)) = eqb (step_of roms ram s x y).number 0
 
+-- What a run returns, and what its first step showed.
+pub record Played : Type 0 where
+  pub ran : Ran
+  pub shown : Report
+
 -- A run, with that if it is asked for.
 abbrev pub played_of : Bool → Roms → List ℕ → State → List ℕ → Played
 played_of asked roms ram s samples =
     record { ran = (run_of roms ram s samples).ran; shown = pick asked (first_shown roms ram s samples) unshown }
+
+-- What the code's answers tell.
+abbrev pub number_ended : Option Refusal → ℕ
+number_ended None = 0
+number_ended (Some r) = number_of r
+
+abbrev pub ran_as : code_ran.Ran → Ran
+ran_as r = record { number = number_ended r.ended; state = r.state; used = r.used; cycles = r.cycles }
+
+abbrev pub played_as : code_played.Played → Played
+played_as p = record { ran = ran_as p.ran; shown = p.shown }
 
 -- The run w is the runs a and b, one after the other: it ends as b does, its totals are theirs added, and its events are a's and then b's.
 pub record Joined (a b w : Ended) : Type 0 where

@@ -1,11 +1,11 @@
 -- Document 01, "One step", with the steps of a machine that is halted or stopped and with the second program (document 02, items 2 and 7).
 -- Assumes nothing.
-use Rattle.std.specs.Prelude.{ℕ, ◌+◌, ◌*◌, ◌/◌, ◌%◌, Bool, true, false, not, ◌&&◌, List, ◌≡◌, eqb}
+use Rattle.std.specs.Prelude.{ℕ, ◌+◌, ◌*◌, ◌/◌, ◌%◌, Bool, true, false, not, ◌&&◌, List, ◌≡◌, eqb, Result, Ok, Err}
 use Rattle.isa.specs.Choice.{pick}
-use Rattle.isa.specs.Numbers.{Answer, given, refused}
+use Rattle.isa.specs.Numbers.{number_of, Answer, given, refused}
 use Rattle.isa.specs.Reading.{Program, Sized, sized, next_pc, entry_at, instruction_at}
-use Rattle.isa.specs.Sheet.{make_of}
 use Rattle.isa.specs.declared.Instruction.{Instruction}
+use Rattle.isa.specs.declared.Refusal.{Refusal}
 use Rattle.machine.specs.Counting.{counted}
 use Rattle.machine.specs.Mode.{is_running, is_waiting}
 use Rattle.machine.specs.Pins.{int_pin, t1_pin, reset_pin, is_high, is_low}
@@ -24,11 +24,13 @@ use Rattle.flow.specs.Stack.{pushed}
 use Rattle.execute.specs.Execute.{executed}
 use Rattle.chip.specs.Admission.{admission}
 use Rattle.chip.specs.Outside.{from_outside}
-use Rattle.chip.specs.declared.Course as code
+use Rattle.chip.specs.declared.Course as code_course
 use Rattle.chip.specs.declared.Fetch.{Fetch}
-use Rattle.chip.specs.declared.Moved.{Moved}
-use Rattle.chip.specs.declared.Outcome.{Outcome}
+use Rattle.chip.specs.declared.Moved as code_moved
+use Rattle.chip.specs.declared.Outcome as code_outcome
 use Rattle.chip.specs.declared.Report.{Report}
+use Rattle.chip.specs.declared.Spent.{Spent}
+use Rattle.chip.specs.declared.Spent.TheVariants.{Waited, Cycles}
 use Rattle.chip.specs.declared.Turn.{Turn}
 use Rattle.chip.specs.declared.Turn.TheVariants.{Refuse, Reset, Wait, ExternalCall, TimerCall, CarryOut}
 
@@ -45,8 +47,27 @@ pub record Course : Type 0 where
   pub outside : ℕ
 
 -- The code writes RAM in place, and tells apart what the step shows (`report_of`): so what it answers is the rest.
-abbrev pub course_answer : Course → code.Course
+pub record CourseAnswer : Type 0 where
+  pub number : ℕ
+  pub state : State
+  pub cycles : ℕ
+  pub fresh : Bool
+  pub waited : Bool
+
+abbrev pub course_answer : Course → CourseAnswer
 course_answer c = record { number = c.number; state = c.state; cycles = c.cycles; fresh = c.fresh; waited = c.waited }
+
+-- What the code's answer tells: of a course, what it takes and the state; of a refusal, the state s that the step got.
+abbrev pub spent_as : Spent → State → CourseAnswer
+spent_as Waited state = record { number = 0; state = state; cycles = 0; fresh = false; waited = true }
+spent_as (Cycles cycles fresh) state = record { number = 0; state = state; cycles = cycles; fresh = fresh; waited = false }
+
+abbrev pub told_as : code_course.Course → CourseAnswer
+told_as c = spent_as c.spent c.state
+
+abbrev pub told_by : State → Result code_course.Course Refusal → CourseAnswer
+told_by s (Ok c) = told_as c
+told_by s (Err r) = record { number = number_of r; state = s; cycles = 0; fresh = false; waited = false }
 
 unfoldable pub declined : ℕ → State → Course
 declined number s =
@@ -209,9 +230,25 @@ plan_by c s first second =
 abbrev pub plan_of : Roms → List ℕ → State → ℕ → ℕ → Plan
 plan_of roms ram s first second = plan_by (course roms ram s first second) s first second
 
+-- What a step answers: the refusal's number or 0, the state, the event, the machine cycles spent, the samples used and the bytes from outside.
+pub record Outcome : Type 0 where
+  pub number : ℕ
+  pub state : State
+  pub event : Event
+  pub cycles : ℕ
+  pub used : ℕ
+  pub outside : ℕ
+
 abbrev pub outcome_of : Plan → Outcome
 outcome_of p =
     record { number = p.number; state = p.state; event = p.event; cycles = p.cycles; used = p.used; outside = p.outside }
+
+-- What a step does to the machine: the refusal's number or 0, the state, the machine cycles spent and the samples used.
+pub record Moved : Type 0 where
+  pub number : ℕ
+  pub state : State
+  pub cycles : ℕ
+  pub used : ℕ
 
 -- What a step does to the machine, and what it shows outside.
 abbrev pub moved_of : Outcome → Moved
@@ -223,6 +260,23 @@ report_of o = record { event = o.event; outside = o.outside }
 -- "A refused step returns the number, the state it got, no event and 0 cycles"; it used no sample, and no byte came from outside.
 abbrev pub refused_by : ℕ → State → Outcome
 refused_by number s = record { number = number; state = s; event = Quiet; cycles = 0; used = 0; outside = 0 }
+
+-- What the code's answers tell, where the step got the state s.
+abbrev pub moved_by : State → Result code_moved.Moved Refusal → Moved
+moved_by s (Ok m) = record { number = 0; state = m.state; cycles = m.cycles; used = m.used }
+moved_by s (Err r) = moved_of (refused_by (number_of r) s)
+
+abbrev pub outcome_by : State → Result code_outcome.Outcome Refusal → Outcome
+outcome_by s (Ok o) =
+    record {
+      number = 0;
+      state = o.moved.state;
+      event = o.shown.event;
+      cycles = o.moved.cycles;
+      used = o.moved.used;
+      outside = o.shown.outside;
+    }
+outcome_by s (Err r) = refused_by (number_of r) s
 
 -- What a step answers, and the RAM that it leaves.
 abbrev pub step_of : Roms → List ℕ → State → ℕ → ℕ → Outcome
@@ -238,9 +292,13 @@ pub record Shows (roms : Roms) (ram : List ℕ) (s : State) (first second : ℕ)
       → r.event ≡ (executed i (seen_by roms first).bytes ram (running_at s (pc_after n s.pc)) s.pc first second).event
   pub outside : r.outside ≡ from_outside roms first s
 
--- What is fetched at an address is what is read there.
-pub record Fetched (program : Program) (pc : ℕ) (f : Fetch) : Type 0 where
-  pub none : (f.number ≡ 0 → ⊥) → instruction_at program pc ≡ refused f.number
-  pub one : f.number ≡ 0 → instruction_at program pc ≡ given (sized (make_of f.kind f.code f.second) f.bytes)
-  pub next : f.number ≡ 0 → f.next ≡ pc_after f.bytes pc
-  pub cycles : f.number ≡ 0 → f.cycles ≡ (entry_at program pc).cycles
+-- What is fetched at an address is what is read there, an instruction of some length.
+pub record AsRead (program : Program) (pc : ℕ) (f : Fetch) : Type 0 where
+  pub bytes : ℕ
+  pub instruction : instruction_at program pc ≡ given (sized f.instruction bytes)
+  pub next : f.next ≡ pc_after bytes pc
+  pub cycles : f.cycles ≡ (entry_at program pc).cycles
+
+abbrev pub Fetched : Program → ℕ → Result Fetch Refusal → Type 0
+Fetched program pc (Ok f) = AsRead program pc f
+Fetched program pc (Err r) = instruction_at program pc ≡ refused (number_of r)

@@ -1,57 +1,38 @@
 // What a step does before its cycles are counted: reset, a wait in standby, an interrupt call, or one instruction.
 ghost use Rattle.std.specs.Prelude.{ℕ, ◌≤◌, List, ◌≡◌, length};
-ghost use Rattle.isa.specs.Table.{packed_rows};
-ghost use Rattle.machine.specs.Rom.{Roms, both, seen_by};
+ghost use Rattle.machine.specs.Rom.{Roms, lent_as, seen_by};
 ghost use Rattle.effects.specs.Effect as defined;
-ghost use Rattle.effects.specs.Effect.{answer_of, written};
+ghost use Rattle.effects.specs.Effect.{answer_of, done_as, written};
 ghost use Rattle.chip.specs.Admission.{lent_of};
-ghost use Rattle.chip.specs.Step.{course_answer, declined, accepted, reset_state, released, waits, called, without_request, done, carried, course_by, course};
+ghost use Rattle.chip.specs.Step.{course_answer, told_as, told_by, accepted, reset_state, released, waits, called, without_request, carried, course_by, course};
 
-use crate::{Course, Turn};
+use crate::{Course, Spent, Turn};
 use effects::Effect;
-use isa::{Refusal, Set};
+use isa::Refusal;
+use machine::pins::Pins;
+use machine::rom::Lent;
 use machine::{Count, Counting, Interrupts, Mode, Ports, State, pins};
 
-fn decline(number: u8, s: State) -> Course
-    ensures { result ≡ course_answer (declined number s) }
-{
-    Course {
-        number,
-        state: s,
-        cycles: 0,
-        fresh: false,
-        waited: false,
-    }
-}
-
 fn accept(e: Effect, cycles: u8) -> Course
-    ensures { (x : defined.Effect) → e ≡ answer_of x → result ≡ course_answer (accepted x cycles) }
+    ensures { (x : defined.Effect) → done_as e ≡ answer_of x → told_as result ≡ course_answer (accepted x cycles) }
 {
     let state = e.state;
     Course {
-        number: 0,
+        spent: Spent::Cycles(cycles, e.fresh),
         state,
-        cycles,
-        fresh: e.fresh,
-        waited: false,
     }
 }
 
 fn reset(s: State) -> State
     ensures { result ≡ reset_state s }
 {
-    let q = s.ports;
     State {
         mode: Mode::Running,
-        a: s.a,
         pc: State::RESET_VECTOR,
         psw: s.psw / 64 * 64 + s.psw / 8 % 2 * 8,
         counting: Counting::Stopped,
-        t: s.t,
-        divider: s.divider,
         tf: false,
         request: false,
-        last: s.last,
         f1: false,
         dbf: false,
         clock: false,
@@ -63,9 +44,10 @@ fn reset(s: State) -> State
         ports: Ports {
             p1: 0xFF,
             p2: 0xFF,
-            bus: q.bus,
             driven: false,
+            ..s.ports
         },
+        ..s
     }
 }
 
@@ -82,29 +64,22 @@ fn release(s: State, first: u32) -> State
 
 // A halted or stopped machine waits: nothing but the samples used goes on.
 fn wait(s: State, first: u32) -> Course
-    ensures { result ≡ course_answer (waits s first) }
+    ensures { told_as result ≡ course_answer (waits s first) }
 {
     let state = release(s, first);
     Course {
-        number: 0,
+        spent: Spent::Waited,
         state,
-        cycles: 0,
-        fresh: false,
-        waited: true,
     }
 }
 
 fn call(s: State, ram: &mut [u8], vector: u16) -> Effect
     requires { 64 ≤ length ram.old }
-    ensures answer { result ≡ answer_of (called s vector) }
+    ensures answer { done_as result ≡ answer_of (called s vector) }
     ensures memory { ram.new ≡ written ram.old (called s vector).write }
 {
     let i = s.interrupts;
-    let t = s.with_interrupts(Interrupts {
-        external: i.external,
-        tcnti: i.tcnti,
-        service: true,
-    });
+    let t = s.with_interrupts(Interrupts { service: true, ..i });
     flow::stack::push(t, ram, vector)
 }
 
@@ -112,67 +87,33 @@ fn without_request(s: State) -> State
     ensures { result ≡ without_request s }
 {
     s.with_count(Count {
-        t: s.t,
-        divider: s.divider,
-        tf: s.tf,
         request: false,
-        last: s.last,
+        ..s.count()
     })
 }
 
-fn finish(e: Effect, cycles: u8, s: State) -> Course
-    ensures { (x : defined.Effect) → e ≡ answer_of x → result ≡ course_answer (done x cycles s) }
+// The instruction at PC. Where the fetch or a table byte is refused, so is the step, and nothing is written.
+fn carry_out(lent: Lent, ram: &mut [u8], s: State, pins: Pins) -> Result<Course, Refusal>
+    requires { 64 ≤ length ram.old }
+    ensures answer { told_by s result ≡ course_answer (carried (seen_by (lent_as lent.entry) pins.first) ram.old s pins.first pins.second) }
+    ensures memory { ram.new ≡ written ram.old (carried (seen_by (lent_as lent.entry) pins.first) ram.old s pins.first pins.second).write }
 {
-    if e.number != 0 {
-        return decline(e.number, s);
-    }
-    accept(e, cycles)
-}
-
-fn carry_out(
-    set: Set,
-    table: &[u16; 256],
-    program: &[u8],
-    outside: &[u8],
-    ram: &mut [u8],
-    s: State,
-    first: u32,
-    second: u32,
-) -> Course
-    requires table_held { table.now ≡ packed_rows set }
-    requires room { 64 ≤ length ram.old }
-    ensures answer { result ≡ course_answer (carried (seen_by (both set program.now outside.now) first) ram.old s first second) }
-    ensures memory { ram.new ≡ written ram.old (carried (seen_by (both set program.now outside.now) first) ram.old s first second).write }
-{
-    let ea = first / pins::EA % 2 == 1;
-    let f = crate::fetching::fetch_at(set, table, program, outside, ea, s.pc);
-    if f.number != 0 {
-        return decline(f.number, s);
-    }
-    let i = isa::decode::made(f.kind, f.code, f.second);
-    let e = execute::execute(
-        i,
-        program,
-        outside,
-        ram,
-        s.running_at(f.next),
-        s.pc,
-        first,
-        second,
-    );
-    finish(e, f.cycles, s)
+    let ea = pins.first / pins::EA % 2 == 1;
+    let f = crate::fetching::fetch_at(lent, ea, s.pc)?;
+    let e = execute::execute(f.instruction, lent, ram, s.running_at(f.next), s.pc, pins)?;
+    Ok(accept(e, f.cycles))
 }
 
 // The turn of a step. It is nearly always an instruction's, so that is looked for first: no sample is refused, RESET and INT are high,
 // no request is stored, and the machine runs. These exclude all other turns (the law `usual`).
-pub fn turn_of(s: State, first: u32, second: u32) -> Turn
-    ensures { (roms : Roms) (ram : List ℕ) → lent_of roms ram s ≡ 0 → course roms ram s first second ≡ course_by result roms ram s first second }
+pub fn turn_of(s: State, pins: Pins) -> Turn
+    ensures { (roms : Roms) (ram : List ℕ) → lent_of roms ram s ≡ 0 → course roms ram s pins.first pins.second ≡ course_by result roms ram s pins.first pins.second }
 {
-    let allowed = crate::admission::samples_allowed(first, second);
+    let allowed = crate::admission::samples_allowed(pins);
     let mode = s.mode;
     let usual = allowed
-        & (first / pins::RESET % 2 == 1)
-        & (first / pins::INT % 2 == 1)
+        & (pins.first / pins::RESET % 2 == 1)
+        & (pins.first / pins::INT % 2 == 1)
         & !s.request
         & machine::is_running(mode);
     if usual {
@@ -181,7 +122,7 @@ pub fn turn_of(s: State, first: u32, second: u32) -> Turn
     if !allowed {
         return Turn::Refuse;
     }
-    let resets = first / pins::RESET % 2 == 0;
+    let resets = pins.first / pins::RESET % 2 == 0;
     if resets {
         return Turn::Reset;
     }
@@ -199,7 +140,7 @@ pub fn turn_of(s: State, first: u32, second: u32) -> Turn
         Mode::Running => {}
     }
     let i = s.interrupts;
-    let external = !i.service & i.external & (first / pins::INT % 2 == 0);
+    let external = !i.service & i.external & (pins.first / pins::INT % 2 == 0);
     if external {
         return Turn::ExternalCall;
     }
@@ -210,27 +151,17 @@ pub fn turn_of(s: State, first: u32, second: u32) -> Turn
     Turn::CarryOut
 }
 
-pub fn course_of(
-    set: Set,
-    table: &[u16; 256],
-    program: &[u8],
-    outside: &[u8],
-    ram: &mut [u8],
-    s: State,
-    first: u32,
-    second: u32,
-) -> Course
-    requires table_held { table.now ≡ packed_rows set }
-    requires admitted { lent_of (both set program.now outside.now) ram.old s ≡ 0 }
-    ensures answer { result ≡ course_answer (course (both set program.now outside.now) ram.old s first second) }
-    ensures memory { ram.new ≡ written ram.old (course (both set program.now outside.now) ram.old s first second).write }
+pub fn course_of(lent: Lent, ram: &mut [u8], s: State, pins: Pins) -> Result<Course, Refusal>
+    requires admitted { lent_of (lent_as lent) ram.old s ≡ 0 }
+    ensures answer { told_by s result ≡ course_answer (course (lent_as lent.entry) ram.old s pins.first pins.second) }
+    ensures memory { ram.new ≡ written ram.old (course (lent_as lent.entry) ram.old s pins.first pins.second).write }
 {
-    match turn_of(s, first, second) {
-        Turn::Refuse => decline(isa::number(Refusal::SampleBits), s),
-        Turn::Reset => accept(effects::quiet_effect(reset(s)), 1),
-        Turn::Wait => wait(s, first),
-        Turn::ExternalCall => accept(call(s, ram, State::EXTERNAL_VECTOR), 2),
-        Turn::TimerCall => accept(call(without_request(s), ram, State::TIMER_VECTOR), 2),
-        Turn::CarryOut => carry_out(set, table, program, outside, ram, s, first, second),
+    match turn_of(s, pins) {
+        Turn::Refuse => Err(Refusal::SampleBits),
+        Turn::Reset => Ok(accept(effects::quiet_effect(reset(s)), 1)),
+        Turn::Wait => Ok(wait(s, pins.first)),
+        Turn::ExternalCall => Ok(accept(call(s, ram, State::EXTERNAL_VECTOR), 2)),
+        Turn::TimerCall => Ok(accept(call(without_request(s), ram, State::TIMER_VECTOR), 2)),
+        Turn::CarryOut => carry_out(lent, ram, s, pins),
     }
 }

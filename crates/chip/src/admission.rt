@@ -1,38 +1,43 @@
 // What is looked at before a step does anything.
-ghost use Rattle.std.specs.Prelude.{◌&&◌, ◌≡◌};
-ghost use Rattle.chip.specs.Admission.{sample_allowed, lent_number};
+ghost use Rattle.std.specs.Prelude.{◌&&◌, ◌≡◌, length};
+ghost use Rattle.isa.specs.Numbers.{number_given};
+ghost use Rattle.chip.specs.Admission.{lent_number, sample_allowed};
 
-use isa::{Refusal, Set};
+use isa::Refusal;
+use machine::pins::Pins;
+use machine::rom::Lent;
 use machine::{State, pins};
 
-// 1, 2 or 3; 0 if none.
-pub fn lent_number(set: Set, program: usize, outside: usize, ram: usize, s: State) -> u8
-    ensures { result ≡ lent_number set program outside ram s }
+// Whether the programs' and the RAM's lengths and the state are admitted; 1, 2 or 3 if not.
+pub fn admit(lent: Lent, ram: usize, s: State) -> Result<(), Refusal>
+    ensures { number_given result ≡ lent_number lent.entry.set (length lent.entry.program.now) (length lent.entry.outside.now) ram s }
 {
+    let program = lent.program.len();
+    let outside = lent.outside.len();
     let long = (program == State::PROGRAM_8048)
         | (program == State::PROGRAM_8049)
         | (program == State::PROGRAM_8050);
     if !long {
-        return isa::number(Refusal::ProgramLength);
+        return Err(Refusal::ProgramLength);
     }
     let second = (outside == 0) | (outside == State::PROGRAM_OUTSIDE);
     if !second {
-        return isa::number(Refusal::ProgramLength);
+        return Err(Refusal::ProgramLength);
     }
     let wide = (ram == State::RAM_8048) | (ram == State::RAM_8049) | (ram == State::RAM_8050);
     if !wide {
-        return isa::number(Refusal::RamLength);
+        return Err(Refusal::RamLength);
     }
-    let permitted = s.is_permitted(set);
+    let permitted = s.is_permitted(lent.set);
     if !permitted {
-        return isa::number(Refusal::StateOutside);
+        return Err(Refusal::StateOutside);
     }
-    0
+    Ok(())
 }
 
 // Whether both samples are allowed; if not, 6.
-pub fn samples_allowed(first: u32, second: u32) -> bool
-    ensures { result ≡ (sample_allowed first && sample_allowed second) }
+pub fn samples_allowed(pins: Pins) -> bool
+    ensures { result ≡ (sample_allowed pins.first && sample_allowed pins.second) }
 {
-    (first < pins::LIMIT) & (second < pins::LIMIT)
+    (pins.first < pins::LIMIT) & (pins.second < pins::LIMIT)
 }

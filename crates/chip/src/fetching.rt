@@ -1,83 +1,28 @@
-// The bytes of the instruction at PC.
-ghost use Rattle.std.specs.Prelude.{◌≡◌};
+// The instruction at PC.
 ghost use Rattle.isa.specs.Reading.{under};
-ghost use Rattle.isa.specs.Table.{packed_rows};
 ghost use Rattle.machine.specs.Rom.{visible};
 ghost use Rattle.chip.specs.Step.{Fetched};
 
 use crate::Fetch;
-use isa::{Refusal, Set};
-use machine::rom;
+use isa::{Refusal, decode, table};
+use machine::rom::Lent;
 
-// Each return is a literal: a helper that returns a struct of 8 bytes costs time (docs/PERFORMANCE.md).
-pub fn fetch_at(
-    set: Set,
-    table: &[u16; 256],
-    program: &[u8],
-    outside: &[u8],
-    ea: bool,
-    pc: u16,
-) -> Fetch
-    requires { table.now ≡ packed_rows set }
-    ensures { Fetched (under set (visible program.now outside.now ea)) pc result }
+pub fn fetch_at(lent: Lent, ea: bool, pc: u16) -> Result<Fetch, Refusal>
+    ensures { Fetched (under lent.entry.set (visible lent.entry.program.now lent.entry.outside.now ea)) pc result }
 {
-    let b = rom::fetch(program, outside, ea, pc);
-    if b.lacking {
-        return Fetch {
-            number: isa::number(Refusal::PastEnd),
-            kind: 0,
-            code: 0,
-            second: 0,
-            bytes: 0,
-            next: 0,
-            cycles: 0,
-        };
-    }
-    let code = b.value;
-    let e = isa::table::entry_in(table, code);
-    let bytes = e.bytes;
+    let code = lent.fetch(ea, pc).ok_or(Refusal::PastEnd)?;
+    let entry = table::entry_of(lent.set, code).ok_or(Refusal::UndefinedCode)?;
     let next = isa::next_pc(pc);
-    if bytes == 1 {
-        return Fetch {
-            number: 0,
-            kind: e.kind,
-            code,
-            second: 0,
-            bytes: 1,
-            next,
-            cycles: e.cycles,
-        };
-    }
-    if bytes == 0 {
-        return Fetch {
-            number: isa::number(Refusal::UndefinedCode),
-            kind: 0,
-            code: 0,
-            second: 0,
-            bytes: 0,
-            next: 0,
-            cycles: 0,
-        };
-    }
-    let d = rom::fetch(program, outside, ea, next);
-    if d.lacking {
-        return Fetch {
-            number: isa::number(Refusal::PastEnd),
-            kind: 0,
-            code: 0,
-            second: 0,
-            bytes: 0,
-            next: 0,
-            cycles: 0,
-        };
-    }
-    Fetch {
-        number: 0,
-        kind: e.kind,
-        code,
-        second: d.value,
-        bytes: 2,
-        next: isa::next_pc(next),
-        cycles: e.cycles,
-    }
+    let alone = entry.bytes == 1;
+    let (second, after) = if alone {
+        (0, next)
+    } else {
+        let second = lent.fetch(ea, next).ok_or(Refusal::PastEnd)?;
+        (second, isa::next_pc(next))
+    };
+    Ok(Fetch {
+        instruction: decode::made(entry.kind, code, second),
+        next: after,
+        cycles: entry.cycles,
+    })
 }

@@ -1,28 +1,25 @@
 #![tactic(auto)]
 // The chip: one step, but for what is asked before it and told after it. crates/runs has the step and the run as a caller has them.
 ghost use Rattle.std.specs.Prelude.{◌≡◌, ◌≤◌};
-ghost use Rattle.isa.specs.Table.{packed_rows};
-ghost use Rattle.machine.specs.Rom.{both};
+ghost use Rattle.machine.specs.Rom.{lent_as};
 ghost use Rattle.chip.specs.Admission.{lent_of};
-ghost use Rattle.chip.specs.Step.{moved_of, ram_after, settled, step_of, ticked};
+ghost use Rattle.chip.specs.Step.{moved_by, moved_of, ram_after, settled, step_of, ticked};
 
 use effects::Event;
-use isa::Set;
+use isa::{Instruction, Refusal};
 use machine::cycle::count_cycle;
+use machine::pins::Pins;
+use machine::rom::Lent;
 use machine::{Count, Counting, State, pins};
 
 pub mod admission; // 1, 2, 3, 6
 pub mod acting; // reset, interrupt calls, one instruction
-mod fetching; // the bytes at PC
+mod fetching; // the instruction at PC
 
-// What is fetched at PC. `number` is 0, or the refusal's number and all else is 0.
+// What is fetched at PC: the instruction, the PC after it, and its machine cycles.
 #[derive(Clone, Copy)]
 pub struct Fetch {
-    pub number: u8,
-    pub kind: u8,
-    pub code: u8,
-    pub second: u8,
-    pub bytes: u8,
+    pub instruction: Instruction,
     pub next: u16,
     pub cycles: u8,
 }
@@ -41,21 +38,25 @@ pub enum Turn {
     CarryOut,
 }
 
-// What a step does before its cycles are counted, besides writing to RAM, which it does in place.
+// What a course takes: a halted or stopped machine waits for a sample, and no machine cycle; any other takes cycles, and may have started
+// the counter, so that its own cycle isn't counted.
 #[derive(Clone, Copy)]
-pub struct Course {
-    pub number: u8,
-    pub state: State,
-    pub cycles: u8,
-    pub fresh: bool,
-    // it was halted or stopped: it uses a sample, and no machine cycle
-    pub waited: bool,
+pub enum Spent {
+    Waited,
+    Cycles(u8, bool),
 }
 
-// What a step does to the machine: the refusal's number or 0, the state, the machine cycles spent and the samples used.
+// What a step does before its cycles are counted, besides writing to RAM, which it does in place. (What it takes stands first for speed:
+// docs/PERFORMANCE.md.)
+#[derive(Clone, Copy)]
+pub struct Course {
+    pub spent: Spent,
+    pub state: State,
+}
+
+// What an accepted step does to the machine: the state, the machine cycles spent and the samples used.
 #[derive(Clone, Copy)]
 pub struct Moved {
-    pub number: u8,
     pub state: State,
     pub cycles: u8,
     pub used: u8,
@@ -68,21 +69,17 @@ pub struct Report {
     pub outside: u8,
 }
 
-// What a step answers: all of both.
+// What an accepted step answers: all of both.
 #[derive(Clone, Copy)]
 pub struct Outcome {
-    pub number: u8,
-    pub state: State,
-    pub event: Event,
-    pub cycles: u8,
-    pub used: u8,
-    pub outside: u8,
+    pub moved: Moved,
+    pub shown: Report,
 }
 
-// What a run answers: the number that ended it, 0 if samples ran out, the state, the samples used and the machine cycles spent.
+// What a run answers: the refusal that ended it, none if samples ran out, the state, the samples used and the machine cycles spent.
 #[derive(Clone, Copy)]
 pub struct Ran {
-    pub number: u8,
+    pub ended: Option<Refusal>,
     pub state: State,
     pub used: usize,
     pub cycles: u64,
@@ -96,86 +93,54 @@ pub struct Played {
 }
 
 // The counter after the cycles of a step, one or two.
-fn tick(
-    counting: Counting,
-    c: Count,
-    cycles: u8,
-    fresh: bool,
-    enabled: bool,
-    first: u32,
-    second: u32,
-) -> Count
+fn tick(counting: Counting, c: Count, cycles: u8, fresh: bool, enabled: bool, pins: Pins) -> Count
     requires { 1 ≤ cycles }
-    ensures { result ≡ ticked counting c cycles fresh enabled first second }
+    ensures { result ≡ ticked counting c cycles fresh enabled pins.first pins.second }
 {
-    let t1 = first / pins::T1 % 2 == 1;
+    let t1 = pins.first / pins::T1 % 2 == 1;
     if fresh {
-        return Count {
-            t: c.t,
-            divider: c.divider,
-            tf: c.tf,
-            request: c.request,
-            last: t1,
-        };
+        return Count { last: t1, ..c };
     }
     let d = count_cycle(counting, c, t1, enabled);
     let two = cycles == 2;
     if two {
-        return count_cycle(counting, d, second / pins::T1 % 2 == 1, enabled);
+        return count_cycle(counting, d, pins.second / pins::T1 % 2 == 1, enabled);
     }
     d
 }
 
-fn settle(s: State, cycles: u8, fresh: bool, first: u32, second: u32) -> State
+fn settle(s: State, cycles: u8, fresh: bool, pins: Pins) -> State
     requires { 1 ≤ cycles }
-    ensures { result ≡ settled s cycles fresh first second }
+    ensures { result ≡ settled s cycles fresh pins.first pins.second }
 {
     let counting = s.counting;
     let i = s.interrupts;
-    s.with_count(tick(counting, s.count(), cycles, fresh, i.tcnti, first, second))
+    s.with_count(tick(counting, s.count(), cycles, fresh, i.tcnti, pins))
 }
 
 // The whole step. 1, 2 and 3 are not given: `step` asks before, and `run` once, since an accepted step leaves it so (the law
-// `still-stands`). A refused one has written nothing to RAM (the laws `refused-writes` and `plan-writes`). The code asks the table; the set
-// is there for the promise.
-pub fn do_step(
-    set: Set,
-    table: &[u16; 256],
-    program: &[u8],
-    outside: &[u8],
-    ram: &mut [u8],
-    s: State,
-    first: u32,
-    second: u32,
-) -> Moved
-    requires table_held { table.now ≡ packed_rows set }
-    requires admitted { lent_of (both set program.now outside.now) ram.old s ≡ 0 }
-    ensures answer { result ≡ moved_of (step_of (both set program.now outside.now) ram.old s first second) }
-    ensures memory { ram.new ≡ ram_after (both set program.now outside.now) ram.old s first second }
+// `still-stands`). A refused one has written nothing to RAM (the laws `refused-writes` and `plan-writes`).
+pub fn do_step(lent: Lent, ram: &mut [u8], s: State, pins: Pins) -> Result<Moved, Refusal>
+    requires admitted { lent_of (lent_as lent) ram.old s ≡ 0 }
+    ensures answer { moved_by s result ≡ moved_of (step_of (lent_as lent.entry) ram.old s pins.first pins.second) }
+    ensures memory { ram.new ≡ ram_after (lent_as lent.entry) ram.old s pins.first pins.second }
 {
-    let c = acting::course_of(set, table, program, outside, ram, s, first, second);
-    if c.number != 0 {
-        return Moved {
-            number: c.number,
-            state: s,
-            cycles: 0,
-            used: 0,
-        };
-    }
+    let c = acting::course_of(lent, ram, s, pins)?;
     let after = c.state;
-    if c.waited {
-        return Moved {
-            number: 0,
+    let spent = c.spent;
+    match spent {
+        Spent::Waited => Ok(Moved {
             state: after,
             cycles: 0,
             used: 1,
-        };
-    }
-    let state = settle(after, c.cycles, c.fresh, first, second);
-    Moved {
-        number: 0,
-        state,
-        cycles: c.cycles,
-        used: c.cycles,
+        }),
+        Spent::Cycles(cycles, fresh) => {
+            let state = settle(after, cycles, fresh, pins);
+            Ok(Moved {
+                state,
+                cycles,
+                used: cycles,
+            })
+        }
     }
 }

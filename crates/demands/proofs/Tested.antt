@@ -15,8 +15,7 @@ use Rattle.machine.specs.Rom.{Roms}
 use Rattle.machine.specs.declared.State.{State}
 use Rattle.chip.specs.Admission.{lent_of, sample_number}
 use Rattle.chip.specs.Run.{Progress, Ended, begun, gone, ended, run_over, run_of, EachStep}
-use Rattle.chip.specs.Step.{Plan, accepted, course, plan_by, plan_of, step_of, ram_after}
-use Rattle.chip.specs.declared.Outcome.{Outcome}
+use Rattle.chip.specs.Step.{Plan, accepted, course, plan_by, plan_of, step_of, ram_after, Outcome}
 use Rattle.chip.proofs.Cycles.{course-number}
 use Rattle.chip.proofs.Exactly.{admitted, admitted-stands, exactly-from, samples-decide, lent-refuses}
 use Rattle.chip.proofs.Linking.{run-over, not-begun}

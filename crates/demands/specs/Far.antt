@@ -6,8 +6,7 @@ use Rattle.machine.specs.Rom.{both}
 use Rattle.machine.specs.State.{power_up, with_a, with_pc, with_count, with_interrupts}
 use Rattle.machine.specs.declared.State.{State}
 use Rattle.chip.specs.Cases.{times, holding, idle, blank}
-use Rattle.chip.specs.Step.{step_of}
-use Rattle.chip.specs.declared.Outcome.{Outcome}
+use Rattle.chip.specs.Step.{step_of, Outcome}
 
 -- One step, and what is to be seen of it: the number, the bytes from outside, A and PC.
 pub record Case : Type 0 where

@@ -1,10 +1,10 @@
 #![tactic(auto)]
 // What an instruction answers, and what is done to registers, RAM and ports.
 ghost use Rattle.std.specs.Prelude.{◌≡◌, ◌<◌, length};
-ghost use Rattle.effects.specs.Effect.{answer_of, written};
-ghost use Rattle.effects.specs.Moves.{quiet, stored, started, lacking};
+ghost use Rattle.effects.specs.Effect.{answer_of, done_as, written};
+ghost use Rattle.effects.specs.Moves.{quiet, stored, started};
 
-use isa::{DigitMove, Refusal};
+use isa::DigitMove;
 use machine::State;
 
 pub mod memory; // registers and RAM
@@ -23,29 +23,28 @@ pub enum Event {
     ExpanderMove(DigitMove, u8, u8),
 }
 
-// What an instruction does besides writing to RAM, which it does in place. Its event is asked for apart, by a single step alone.
+// What an instruction does besides writing to RAM, which it does in place. Its event is asked for apart, by a single step alone. The flag
+// comes first: the order matters for speed (docs/PERFORMANCE.md).
 #[derive(Clone, Copy)]
 pub struct Effect {
-    // 5 if the memory that must answer lacks a table byte, else 0
-    pub number: u8,
-    pub state: State,
     // the instruction has started the counter, so that its own cycle isn't counted
     pub fresh: bool,
+    pub state: State,
 }
 
 pub fn quiet_effect(s: State) -> Effect
-    ensures { result ≡ answer_of (quiet s) }
+    ensures { done_as result ≡ answer_of (quiet s) }
 {
     Effect {
-        number: 0,
-        state: s,
         fresh: false,
+        state: s,
     }
 }
 
+#[tactic(auto, unfolding(crate::specs::Effect::written))]
 pub fn stored_effect(s: State, ram: &mut [u8], at: usize, v: u8) -> Effect
     requires { at < length ram.old }
-    ensures answer { result ≡ answer_of (stored s at v) }
+    ensures answer { done_as result ≡ answer_of (stored s at v) }
     ensures memory { ram.new ≡ written ram.old (stored s at v).write }
 {
     memory::store(ram, at, v);
@@ -53,21 +52,10 @@ pub fn stored_effect(s: State, ram: &mut [u8], at: usize, v: u8) -> Effect
 }
 
 pub fn started_effect(s: State) -> Effect
-    ensures { result ≡ answer_of (started s) }
+    ensures { done_as result ≡ answer_of (started s) }
 {
     Effect {
-        number: 0,
-        state: s,
         fresh: true,
-    }
-}
-
-pub fn lacking_effect(s: State) -> Effect
-    ensures { result ≡ answer_of (lacking s) }
-{
-    Effect {
-        number: isa::number(Refusal::PastEnd),
         state: s,
-        fresh: false,
     }
 }

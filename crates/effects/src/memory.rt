@@ -1,4 +1,5 @@
 // Registers and RAM. Every chip has 64 bytes at least, so that each cell an instruction names is there and no test is needed.
+// (A struct of the slice and that fact would prove too, but whoever writes would owe `ram.new.bytes.ghost_name ≡ ram.old.bytes.ghost_name`.)
 ghost use Rattle.std.specs.Prelude.{◌≡◌, ◌≤◌, ◌<◌, length, set};
 ghost use Rattle.isa.specs.Reading.{byte_at};
 ghost use Rattle.effects.specs.Memory.{register_at, indirect_at, place_of, source_of};

@@ -1,6 +1,6 @@
 // Moves between A and RAM that do more than one thing; `at` is a cell that is there.
 ghost use Rattle.std.specs.Prelude.{◌≡◌, ◌<◌, length};
-ghost use Rattle.effects.specs.Effect.{answer_of, written};
+ghost use Rattle.effects.specs.Effect.{answer_of, done_as, written};
 ghost use Rattle.effects.specs.Moves.{exchanged, digits_exchanged, raised};
 
 use crate::{Effect, memory, stored_effect};
@@ -8,7 +8,7 @@ use machine::State;
 
 pub fn exchange(s: State, ram: &mut [u8], at: usize) -> Effect
     requires { at < length ram.old }
-    ensures answer { result ≡ answer_of (exchanged s ram.old at) }
+    ensures answer { done_as result ≡ answer_of (exchanged s ram.old at) }
     ensures memory { ram.new ≡ written ram.old (exchanged s ram.old at).write }
 {
     let v = memory::cell(&ram[..], at);
@@ -17,7 +17,7 @@ pub fn exchange(s: State, ram: &mut [u8], at: usize) -> Effect
 
 pub fn exchange_digits(s: State, ram: &mut [u8], at: usize) -> Effect
     requires { at < length ram.old }
-    ensures answer { result ≡ answer_of (digits_exchanged s ram.old at) }
+    ensures answer { done_as result ≡ answer_of (digits_exchanged s ram.old at) }
     ensures memory { ram.new ≡ written ram.old (digits_exchanged s ram.old at).write }
 {
     let v = memory::cell(&ram[..], at);
@@ -32,7 +32,7 @@ pub fn exchange_digits(s: State, ram: &mut [u8], at: usize) -> Effect
 // INC and DEC of a cell, n being 1 or 255.
 pub fn raise(s: State, ram: &mut [u8], at: usize, n: u8) -> Effect
     requires { at < length ram.old }
-    ensures answer { result ≡ answer_of (raised s ram.old at n) }
+    ensures answer { done_as result ≡ answer_of (raised s ram.old at n) }
     ensures memory { ram.new ≡ written ram.old (raised s ram.old at n).write }
 {
     let v = memory::cell(&ram[..], at);

@@ -6,60 +6,43 @@ use isa::{DigitMove, Join, Latch};
 use machine::{Ports, State, pins};
 
 // IN and INS: for a port, what is high on both its latch and its pins.
+#[tactic(auto, unfolding(isa::specs::Choice::pick))]
 pub fn read_pins(l: Latch, s: State, second: u32) -> State
     ensures { result ≡ input l s second }
 {
     let q = s.ports;
     match l {
         Latch::Bus => s.with_a((second % 256) as u8),
-        Latch::Port(p) => {
-            if p == 1 {
-                s.with_a(q.p1 & ((second / pins::P1 % 256) as u8))
-            } else {
-                s.with_a(q.p2 & ((second / pins::P2 % 256) as u8))
-            }
-        }
+        Latch::Port(1) => s.with_a(q.p1 & ((second / pins::P1 % 256) as u8)),
+        Latch::Port(_) => s.with_a(q.p2 & ((second / pins::P2 % 256) as u8)),
     }
 }
 
+#[tactic(auto, unfolding(isa::specs::Choice::pick))]
 pub fn latch_value(l: Latch, s: State) -> u8
     ensures { result ≡ latch_of l s }
 {
     let q = s.ports;
     match l {
         Latch::Bus => q.bus,
-        Latch::Port(p) => { if p == 1 { q.p1 } else { q.p2 } }
+        Latch::Port(1) => q.p1,
+        Latch::Port(_) => q.p2,
     }
 }
 
+#[tactic(auto, unfolding(isa::specs::Choice::pick))]
 pub fn write_latch(l: Latch, s: State, v: u8) -> State
     ensures { result ≡ output l s v }
 {
     let q = s.ports;
     match l {
         Latch::Bus => s.with_ports(Ports {
-            p1: q.p1,
-            p2: q.p2,
             bus: v,
             driven: true,
+            ..q
         }),
-        Latch::Port(p) => {
-            if p == 1 {
-                s.with_ports(Ports {
-                    p1: v,
-                    p2: q.p2,
-                    bus: q.bus,
-                    driven: q.driven,
-                })
-            } else {
-                s.with_ports(Ports {
-                    p1: q.p1,
-                    p2: v,
-                    bus: q.bus,
-                    driven: q.driven,
-                })
-            }
-        }
+        Latch::Port(1) => s.with_ports(Ports { p1: v, ..q }),
+        Latch::Port(_) => s.with_ports(Ports { p2: v, ..q }),
     }
 }
 

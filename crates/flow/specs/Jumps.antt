@@ -1,11 +1,13 @@
 -- Jumps, and table bytes; base is the address of the instruction's first byte.
 -- Assumes nothing.
-use Rattle.std.specs.Prelude.{ℕ, ◌+◌, ◌/◌, ◌%◌, ◌^◌, Bool, false, not, ◌&&◌, List, eqb}
+use Rattle.std.specs.Prelude.{ℕ, ◌+◌, ◌/◌, ◌%◌, ◌^◌, Bool, false, not, ◌&&◌, List, eqb, Result, Ok, Err}
 use Rattle.isa.specs.Choice.{pick}
 use Rattle.isa.specs.Pages.{in_page, branch_target}
 use Rattle.isa.specs.Reading.{lacks, byte_at}
 use Rattle.isa.specs.declared.Condition.{Condition}
 use Rattle.isa.specs.declared.Condition.TheVariants.{Jb, Jc, Jf0, Jf1, Jnc, Jni, Jnt0, Jnt1, Jnz, Jtf, Jt0, Jt1, Jz}
+use Rattle.isa.specs.declared.Refusal.{Refusal}
+use Rattle.isa.specs.declared.Refusal.TheVariants.{PastEnd}
 use Rattle.machine.specs.State.{with_a, with_pc, with_count}
 use Rattle.machine.specs.declared.State.{State}
 use Rattle.effects.specs.Effect.{Effect}
@@ -44,6 +46,10 @@ branched Jz s base d first = jump_if (eqb s.a 0) s base d
 abbrev pub decremented : State → List ℕ → ℕ → ℕ → ℕ → Effect
 decremented s ram at base d =
     stored (jump_if (not (eqb ((byte_at ram at + 255) % 256) 0)) s base d) at ((byte_at ram at + 255) % 256)
+
+-- The byte at an address of a table, or 5.
+unfoldable pub table_byte : List ℕ → ℕ → Result ℕ Refusal
+table_byte program at = pick (lacks program at) (Err PastEnd) (Ok (byte_at program at))
 
 -- MOVP and MOVP3 from a table byte's address; refused, the state is the one that the step got, whose PC is base.
 abbrev pub table_loaded : List ℕ → State → ℕ → ℕ → Effect

@@ -1,6 +1,6 @@
 // Flags, and what sets something in the machine.
 ghost use Rattle.std.specs.Prelude.{◌≡◌};
-ghost use Rattle.effects.specs.Effect.{answer_of};
+ghost use Rattle.effects.specs.Effect.{answer_of, done_as};
 ghost use Rattle.flow.specs.Control.{with_f1, with_dbf, cleared, complemented, external_enabled, tcnti_enabled, switched, standing_by};
 
 use effects::Effect;
@@ -42,33 +42,27 @@ pub fn complement(f: Flag, s: State) -> State
 fn enable_external(on: bool, s: State) -> State
     ensures { result ≡ external_enabled on s }
 {
-    let i = s.interrupts;
     s.with_interrupts(Interrupts {
         external: on,
-        tcnti: i.tcnti,
-        service: i.service,
+        ..s.interrupts
     })
 }
 
 fn enable_tcnti(on: bool, s: State) -> State
     ensures { result ≡ tcnti_enabled on s }
 {
-    let i = s.interrupts;
     let t = s.with_count(Count {
-        t: s.t,
-        divider: s.divider,
-        tf: s.tf,
         request: s.request & on,
-        last: s.last,
+        ..s.count()
     });
     t.with_interrupts(Interrupts {
-        external: i.external,
         tcnti: on,
-        service: i.service,
+        ..s.interrupts
     })
 }
 
 // HALT and STOP: with INT low in the first sample the mode isn't entered.
+#[tactic(auto, unfolding(isa::specs::Choice::pick))]
 pub fn stand_by(s: State, mode: Mode, first: u32) -> State
     ensures { result ≡ standing_by s mode first }
 {
@@ -80,7 +74,7 @@ pub fn stand_by(s: State, mode: Mode, first: u32) -> State
 }
 
 pub fn switch(op: Switch, s: State) -> Effect
-    ensures { result ≡ answer_of (switched op s) }
+    ensures { done_as result ≡ answer_of (switched op s) }
 {
     match op {
         Switch::EnI => effects::quiet_effect(enable_external(true, s)),

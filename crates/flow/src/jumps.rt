@@ -1,21 +1,24 @@
 // Jumps, and table bytes; `base` is the address of the instruction's first byte.
-ghost use Rattle.std.specs.Prelude.{◌≡◌, ◌<◌, length};
+ghost use Rattle.std.specs.Prelude.{ℕ, ◌≡◌, ◌<◌, length};
 ghost use Rattle.machine.specs.Rom.{visible};
-ghost use Rattle.effects.specs.Effect.{answer_of, written};
-ghost use Rattle.flow.specs.Jumps.{far_target, jump_if, without_tf, branched, decremented, table_loaded, table_jumped};
+ghost use Rattle.machine.specs.State.{with_pc};
+ghost use Rattle.effects.specs.Effect.{answer_of, done_as, effect_as, written};
+ghost use Rattle.flow.specs.Jumps.{far_target, jump_if, without_tf, branched, decremented, table_byte, table_loaded, table_jumped};
 
 use effects::{Effect, memory};
-use isa::{Condition, pages};
-use machine::{Count, State, pins, rom};
+use isa::{Condition, Refusal, pages};
+use machine::rom::Lent;
+use machine::{Count, State, pins};
 
+#[tactic(auto, unfolding(isa::specs::Choice::pick))]
 pub fn far_target(s: State, a: u16) -> u16
     ensures { result ≡ far_target s a }
 {
-    let i = s.interrupts;
-    let upper = s.dbf & !i.service;
+    let upper = s.dbf && !s.interrupts.service;
     if upper { a % 2048 + 2048 } else { a % 2048 }
 }
 
+#[tactic(auto, unfolding(isa::specs::Choice::pick))]
 fn jump_if(taken: bool, s: State, base: u16, d: u8) -> State
     ensures { result ≡ jump_if taken s base d }
 {
@@ -30,11 +33,8 @@ fn without_tf(s: State) -> State
     ensures { result ≡ without_tf s }
 {
     s.with_count(Count {
-        t: s.t,
-        divider: s.divider,
         tf: false,
-        request: s.request,
-        last: s.last,
+        ..s.count()
     })
 }
 
@@ -60,45 +60,38 @@ pub fn branch(c: Condition, s: State, base: u16, d: u8, first: u32) -> State
 
 pub fn djnz(s: State, ram: &mut [u8], at: usize, base: u16, d: u8) -> Effect
     requires { at < length ram.old }
-    ensures answer { result ≡ answer_of (decremented s ram.old at base d) }
+    ensures answer { done_as result ≡ answer_of (decremented s ram.old at base d) }
     ensures memory { ram.new ≡ written ram.old (decremented s ram.old at base d).write }
 {
     let v = ((memory::cell(&ram[..], at) as u16 + 255) % 256) as u8;
     effects::stored_effect(jump_if(v != 0, s, base, d), ram, at, v)
 }
 
-// MOVP and MOVP3.
-pub fn load_table(
-    program: &[u8],
-    outside: &[u8],
-    ea: bool,
-    s: State,
-    base: u16,
-    address: u16,
-) -> Effect
-    ensures { result ≡ answer_of (table_loaded (visible program.now outside.now ea) s base address) }
+// The byte at an address of a table.
+fn table_byte(lent: Lent, ea: bool, address: u16) -> Result<u8, Refusal>
+    ensures { result ≡ table_byte (visible lent.entry.program.now lent.entry.outside.now ea) address }
 {
-    let b = rom::fetch(program, outside, ea, address);
-    if b.lacking {
-        return effects::lacking_effect(s.with_pc(base));
-    }
-    effects::quiet_effect(s.with_a(b.value))
+    lent.fetch(ea, address).ok_or(Refusal::PastEnd)
+}
+
+// MOVP and MOVP3.
+pub fn load_table(lent: Lent, ea: bool, s: State, address: u16) -> Result<Effect, Refusal>
+    ensures { (base : ℕ) → effect_as (with_pc s base) result ≡ answer_of (table_loaded (visible lent.entry.program.now lent.entry.outside.now ea) s base address) }
+{
+    let byte = table_byte(lent, ea, address)?;
+    Ok(effects::quiet_effect(s.with_a(byte)))
 }
 
 // JMPP.
 pub fn jump_by_table(
-    program: &[u8],
-    outside: &[u8],
+    lent: Lent,
     ea: bool,
     s: State,
     base: u16,
     address: u16,
-) -> Effect
-    ensures { result ≡ answer_of (table_jumped (visible program.now outside.now ea) s base address) }
+) -> Result<Effect, Refusal>
+    ensures { effect_as (with_pc s base) result ≡ answer_of (table_jumped (visible lent.entry.program.now lent.entry.outside.now ea) s base address) }
 {
-    let b = rom::fetch(program, outside, ea, address);
-    if b.lacking {
-        return effects::lacking_effect(s.with_pc(base));
-    }
-    effects::quiet_effect(s.with_pc(pages::in_page(base, b.value)))
+    let byte = table_byte(lent, ea, address)?;
+    Ok(effects::quiet_effect(s.with_pc(pages::in_page(base, byte))))
 }

@@ -1,51 +1,66 @@
 // The stack: RAM 8 to 23.
-ghost use Rattle.std.specs.Prelude.{◌≡◌, ◌≤◌, length};
-ghost use Rattle.effects.specs.Effect.{answer_of, written};
-ghost use Rattle.flow.specs.Stack.{pushed, returned, restored};
+ghost use Rattle.std.specs.Prelude.{◌+◌, ◌*◌, ◌/◌, ◌%◌, ◌≡◌, ◌≤◌, length};
+ghost use Rattle.effects.specs.Effect.{answer_of, done_as, written};
+ghost use Rattle.flow.specs.Stack.{high_byte, low_byte, pushed, restored, returned, sp_below};
 
 use effects::{Effect, memory};
 use machine::{Interrupts, State};
 
 // PC and the upper half of PSW go on the stack, and PC becomes `to`.
+#[tactic(auto, unfolding(effects::specs::Effect::written, crate::specs::Stack::pushed))]
 pub fn push(s: State, ram: &mut [u8], to: u16) -> Effect
     requires { 64 ≤ length ram.old }
-    ensures answer { result ≡ answer_of (pushed s to) }
+    ensures answer { done_as result ≡ answer_of (pushed s to) }
     ensures memory { ram.new ≡ written ram.old (pushed s to).write }
 {
     let at = (8 + s.psw % 8 * 2) as usize;
-    memory::store(ram, at, (s.pc % 256) as u8);
-    memory::store(ram, at + 1, (s.pc / 256 % 16) as u8 + s.psw / 16 * 16);
+    let [low, high] = s.pc.to_le_bytes();
+    memory::store(ram, at, low);
+    memory::store(ram, at + 1, high % 16 + s.psw / 16 * 16);
     effects::quiet_effect(s.with_core(s.a, to, s.psw / 8 * 8 + (s.psw % 8 + 1) % 8))
+}
+
+// What stands on top of the stack: SP counted down, PC, and PSW bits 4-7, where they stand in PSW.
+#[derive(Clone, Copy)]
+struct Popped {
+    sp: u8,
+    pc: u16,
+    upper: u8,
+}
+
+fn pop(s: State, ram: &[u8]) -> Popped
+    requires { 64 ≤ length ram.now }
+    ensures sp { result.sp ≡ sp_below s }
+    ensures pc { result.pc ≡ low_byte s ram.now + high_byte s ram.now % 16 * 256 }
+    ensures upper { result.upper ≡ high_byte s ram.now / 16 * 16 }
+{
+    let sp = (s.psw % 8 + 7) % 8;
+    let at = (8 + sp * 2) as usize;
+    let low = memory::cell(ram, at);
+    let high = memory::cell(ram, at + 1);
+    Popped {
+        sp,
+        pc: u16::from_le_bytes([low, high % 16]),
+        upper: high / 16 * 16,
+    }
 }
 
 pub fn ret(s: State, ram: &[u8]) -> State
     requires { 64 ≤ length ram.now }
     ensures { result ≡ returned s ram.now }
 {
-    let sp = (s.psw % 8 + 7) % 8;
-    let at = (8 + sp * 2) as usize;
-    let low = memory::cell(ram, at);
-    let high = memory::cell(ram, at + 1);
-    s.with_core(s.a, low as u16 + high as u16 % 16 * 256, s.psw / 8 * 8 + sp)
+    let top = pop(s, ram);
+    s.with_core(s.a, top.pc, s.psw / 8 * 8 + top.sp)
 }
 
 pub fn retr(s: State, ram: &[u8]) -> State
     requires { 64 ≤ length ram.now }
     ensures { result ≡ restored s ram.now }
 {
-    let sp = (s.psw % 8 + 7) % 8;
-    let at = (8 + sp * 2) as usize;
-    let low = memory::cell(ram, at);
-    let high = memory::cell(ram, at + 1);
-    let i = s.interrupts;
-    let t = s.with_core(
-        s.a,
-        low as u16 + high as u16 % 16 * 256,
-        high / 16 * 16 + s.psw / 8 % 2 * 8 + sp,
-    );
+    let top = pop(s, ram);
+    let t = s.with_core(s.a, top.pc, top.upper + s.psw / 8 % 2 * 8 + top.sp);
     t.with_interrupts(Interrupts {
-        external: i.external,
-        tcnti: i.tcnti,
         service: false,
+        ..s.interrupts
     })
 }

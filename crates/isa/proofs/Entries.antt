@@ -4,21 +4,38 @@ use mathlib.Core.Path.{◌≡◌, refl}
 use mathlib.Core.Bool.{Bool, true, false, ◌&&◌}
 use mathlib.Core.List.{◌∷◌}
 use Prim.Native.Nat.{ℕ, ◌<◌, ◌≤◌}
-use native.Mathlib.Omega.{arith}
 use lib.Dec.{eqb, leb, ltb}
-use lib.ListN.{get_or, get_or-eq_default}
+use lib.ListN.{length, get_or, get_or-eq_default}
 use borrow.Author.Tests.{leb-true, ltb-true, ltb-false}
+use Rattle.std.specs.Prelude.{None}
 use Rattle.isa.specs.Choice.{pick, within}
-use Rattle.isa.specs.Sheet.{rows, undefined_row, row_of, kind_of, entry_of}
-use Rattle.isa.specs.Table.{packed_rows, unpacked}
+use Rattle.isa.specs.Sheet.{rows, rows_of, undefined_row, row_of, kind_of, entry_of}
+use Rattle.isa.specs.Table.{entry_as}
 use Rattle.isa.specs.declared.Set.{Set}
+use Rattle.isa.specs.declared.table.Entry.{Entry}
+use Rattle.isa.specs.declared.table.TheConstants.{TABLE}
 use Rattle.isa.specs.declared.Set.TheVariants.{Intel, Nec}
 use Rattle.isa.proofs.Everywhere.{everywhere}
 
-pub entry-held : (set : Set) (b : ℕ) → b < 256 → unpacked (get_or (packed_rows set) b 0) ≡ entry_of set b
-unfolding packed_rows entry_of kind_of pick
-entry-held Intel b h = everywhere (λ k. unpacked (get_or (packed_rows Intel) k 0)) (entry_of Intel) 256 refl b h
-entry-held Nec b h = everywhere (λ k. unpacked (get_or (packed_rows Nec) k 0)) (entry_of Nec) 256 refl b h
+-- The table's entry of an undefined code.
+abbrev pub blank : Entry
+blank = entry_as None
+
+pub nec-held : (b : ℕ) → b < 256 → get_or TABLE b blank ≡ entry_of Nec b
+unfolding entry_of kind_of pick
+nec-held b h = everywhere (λ k. get_or TABLE k blank) (entry_of Nec) 256 refl b h
+
+-- A set leaves the codes undefined that NEC's does, and those whose kind is past the set's rows.
+abbrev pub within_set : Set → Entry → Entry
+within_set set e = pick (eqb e.bytes 0) blank (pick (ltb (length (rows_of set)) e.kind) blank e)
+
+pub entry-within : (set : Set) (b : ℕ) → b < 256 → within_set set (entry_of Nec b) ≡ entry_of set b
+unfolding entry_of kind_of pick
+entry-within Intel b h = everywhere (λ k. within_set Intel (entry_of Nec k)) (entry_of Intel) 256 refl b h
+entry-within Nec b h = everywhere (λ k. within_set Nec (entry_of Nec k)) (entry_of Nec) 256 refl b h
+
+pub entry-held : (set : Set) (b : ℕ) → b < 256 → within_set set (get_or TABLE b blank) ≡ entry_of set b
+entry-held set b h = rw (nec-held b h) (entry-within set b h)
 
 -- A number from low to high.
 pub within-true : (low high k : ℕ) → within low high k ≡ true → (low ≤ k) × (k ≤ high)
@@ -26,7 +43,7 @@ within-true low high k e = go (leb low k) refl e
   where
     go : (p : Bool) → leb low k ≡ p → (p && leb k high) ≡ true → (low ≤ k) × (k ≤ high)
     go true h t = (leb-true low k h, leb-true k high t)
-    go false h t = let z : ◌≡◌ {A = ℕ} 0 1 = cc in absurd (omega arith)
+    go false h t = cc
 
 row-cycles : (k : ℕ) → eqb (row_of k).bytes 0 ≡ false → within 1 2 (row_of k).cycles ≡ true
 unfolding pick
@@ -39,8 +56,7 @@ row-cycles k defined = go (ltb k 99) refl
     go false h =
         let past : row_of k ≡ undefined_row = get_or-eq_default (undefined_row ∷ rows) undefined_row (ltb-false k 99 h) in
         let never : true ≡ false = rw past at defined in
-        let z : ◌≡◌ {A = ℕ} 0 1 = cc in
-        absurd (omega arith)
+        cc
 
 pub defined-cycles :
     (set : Set) (b : ℕ) → eqb (entry_of set b).bytes 0 ≡ false → (1 ≤ (entry_of set b).cycles) × ((entry_of set b).cycles ≤ 2)

@@ -39,12 +39,12 @@ module _ (program : Program) (a : ℕ) where
           (q s t u : Bool) → lacks program.bytes a ≡ q → eqb size 0 ≡ s → eqb size 1 ≡ t → lacks program.bytes (next_pc a) ≡ u
           → pick q (refused 5) (pick s (refused 4) (pick t (given (sized short 1)) (pick u (refused 5) (given (sized long 2))))) ≡ given (sized i n)
           → Found program a i n
-      go true s t u hq hs ht hu e = let z : ◌≡◌ {A = ℕ} 0 1 = cc in absurd (omega arith)
-      go false true t u hq hs ht hu e = let z : ◌≡◌ {A = ℕ} 0 1 = cc in absurd (omega arith)
+      go true s t u hq hs ht hu e = cc
+      go false true t u hq hs ht hu e = cc
       go false false true u hq hs ht hu e =
           let one : 1 ≡ n = cc in
           subst (λ (k : ℕ). Found program a i k) one (alone hq hs ht (cc))
-      go false false false true hq hs ht hu e = let z : ◌≡◌ {A = ℕ} 0 1 = cc in absurd (omega arith)
+      go false false false true hq hs ht hu e = cc
       go false false false false hq hs ht hu e =
           let two : 2 ≡ n = cc in
           subst (λ (k : ℕ). Found program a i k) two (paired hq hs ht hu (cc))
@@ -59,9 +59,9 @@ module _ (program : Program) (a : ℕ) where
           → pick q (refused 5) (pick s (refused 4) (pick t (given (sized short 1)) (pick u (refused 5) (given (sized long 2))))) ≡ refused n → ⊥
       go true s t u e = let f : 5 ≡ n = cc in omega arith
       go false true t u e = let f : 4 ≡ n = cc in omega arith
-      go false false true u e = let f : ◌≡◌ {A = ℕ} 0 1 = cc in omega arith
+      go false false true u e = cc
       go false false false true e = let f : 5 ≡ n = cc in omega arith
-      go false false false false e = let f : ◌≡◌ {A = ℕ} 0 1 = cc in omega arith
+      go false false false false e = cc
 
   -- The reader reads no more than the instruction at the address.
   pub read-there : (i : Instruction) (n : ℕ) → read_of program a ≡ given (sized i n) → instruction_at program a ≡ given (sized i n)
@@ -69,5 +69,5 @@ module _ (program : Program) (a : ℕ) where
   read-there i n r = go (ltb 4096 (length program.bytes)) r
     where
       go : (p : Bool) → pick p (refused 1) (instruction_at program a) ≡ given (sized i n) → instruction_at program a ≡ given (sized i n)
-      go true e = let z : ◌≡◌ {A = ℕ} 0 1 = cc in absurd (omega arith)
+      go true e = cc
       go false e = e

@@ -1,20 +1,35 @@
--- Two answers that meet one statement are equal, for each public routine. `next_pc`, `number`, `opcodes`, `entry_in`, `entry_of` and
--- `made` state their result by an equation, r ≡ x, so that two are equal by `once`. `read` states the number and the values of its
--- answer, from which the answer follows.
+-- Two answers that meet one statement are equal, for each public routine. `next_pc`, `number` and `made` state their result by an equation,
+-- r ≡ x, so that two are equal by `once`. `entry_of` states the entry of its answer, and that one that it gives has a length; `read` states
+-- the number and the values of its answer: from these the answer follows.
 -- Assumes nothing.
 use mathlib.Core.Path.{◌≡◌, refl, sym, ◌∙◌, ap}
-use Prim.Native.Nat.{ℕ}
+use Prim.Native.Nat.{ℕ, ◌<◌}
+use native.Mathlib.Omega.{arith}
 use lib.Dec.{eqb}
+use Rattle.std.specs.Prelude.{Option, Some, None, IfSome, Result, Ok, Err}
 use Rattle.isa.specs.Choice.{pick}
 use Rattle.isa.specs.Numbers.{number_of}
 use Rattle.isa.specs.Reading.{Program, read_of, read_as}
+use Rattle.isa.specs.Table.{entry_as}
+use Rattle.isa.specs.declared.table.Entry.{Entry}
+use Rattle.isa.specs.declared.Instruction.{Instruction}
 use Rattle.isa.specs.declared.Refusal.{Refusal}
 use Rattle.isa.specs.declared.Refusal.TheVariants.{ProgramLength, RamLength, StateOutside, UndefinedCode, PastEnd, SampleBits, LineTooShort, OperandTooLarge, SetUnknown}
 use Rattle.isa.specs.declared.Decoded.{Decoded}
-use Rattle.isa.specs.declared.Decoded.TheVariants.{Found, Unread}
 
 pub once : {A : Type 0} {x r s : A} → r ≡ x → s ≡ x → r ≡ s
 once p q = p ∙ sym q
+
+pub entry-once :
+    (x : Entry) (r s : Option Entry) → entry_as r ≡ x → IfSome r (λ e. 0 < e.bytes) → entry_as s ≡ x → IfSome s (λ e. 0 < e.bytes) → r ≡ s
+entry-once x (Some e) (Some f) p d q g = ap Some (once p q)
+entry-once x (Some e) None p d q g =
+    let none : e.bytes ≡ 0 = ap (λ (e : Entry). e.bytes) (once p q) in
+    absurd (omega arith)
+entry-once x None (Some f) p d q g =
+    let none : f.bytes ≡ 0 = ap (λ (e : Entry). e.bytes) (once q p) in
+    absurd (omega arith)
+entry-once x None None p d q g = refl
 
 -- The refusal that has a number.
 named : ℕ → Refusal
@@ -44,11 +59,18 @@ named-number SetUnknown = refl
 pub one-number : (r s : Refusal) → number_of r ≡ number_of s → r ≡ s
 one-number r s e = sym (named-number r) ∙ ap named e ∙ named-number s
 
-pub read-as-once : (r s : Decoded) → read_as r ≡ read_as s → r ≡ s
-read-as-once (Found i m) (Found j n) e = cc
-read-as-once (Found i m) (Unread r) e = cc
-read-as-once (Unread r) (Found j n) e = cc
-read-as-once (Unread r) (Unread s) e = let n : number_of r ≡ number_of s = cc in ap Unread (one-number r s n)
+same-decoded : (i j : Decoded) → i.instruction ≡ j.instruction → i.bytes ≡ j.bytes → i ≡ j
+same-decoded i j p q = ap (λ (x : Instruction). record i { instruction = x }) p ∙ ap (λ (n : ℕ). record j { bytes = n }) q
 
-pub read-once : (program : Program) (a : ℕ) (r s : Decoded) → read_as r ≡ read_of program a → read_as s ≡ read_of program a → r ≡ s
+pub read-as-once : (r s : Result Decoded Refusal) → read_as r ≡ read_as s → r ≡ s
+read-as-once (Ok i) (Ok j) e =
+    let p : i.instruction ≡ j.instruction = cc in
+    let q : i.bytes ≡ j.bytes = cc in
+    ap Ok (same-decoded i j p q)
+read-as-once (Ok i) (Err r) e = cc
+read-as-once (Err r) (Ok j) e = cc
+read-as-once (Err r) (Err s) e = let n : number_of r ≡ number_of s = cc in ap Err (one-number r s n)
+
+pub read-once :
+    (program : Program) (a : ℕ) (r s : Result Decoded Refusal) → read_as r ≡ read_of program a → read_as s ≡ read_of program a → r ≡ s
 read-once program a r s p q = read-as-once r s (once p q)

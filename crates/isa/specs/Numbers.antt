@@ -1,6 +1,6 @@
 -- Document 01, "Numbers that a caller gets back"; and 25, a number of our own, for a set that a caller in C names and there isn't.
 -- Assumes nothing.
-use Rattle.std.specs.Prelude.{ℕ}
+use Rattle.std.specs.Prelude.{ℕ, Result, Ok, Err}
 use Rattle.isa.specs.declared.Refusal.{Refusal}
 use Rattle.isa.specs.declared.Refusal.TheVariants.{ProgramLength, RamLength, StateOutside, UndefinedCode, PastEnd, SampleBits, LineTooShort, OperandTooLarge, SetUnknown}
 
@@ -20,3 +20,8 @@ number_of SetUnknown = 25
 pub data Answer (A : Type 0) : Type 0 where
   given : A → Answer A
   refused : ℕ → Answer A
+
+-- The number that a caller gets back from an answer: 0, or that of the refusal.
+abbrev pub number_given : {A : Type 0} → Result A Refusal → ℕ
+number_given (Ok a) = 0
+number_given (Err r) = number_of r

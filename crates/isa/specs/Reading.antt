@@ -1,14 +1,14 @@
 -- The reader: what stands at an address of a program.
 -- Assumes nothing.
-use Rattle.std.specs.Prelude.{ℕ, ◌+◌, ◌*◌, ◌/◌, ◌%◌, ◌<◌, Bool, List, eqb, leb, ltb, length, get_or}
+use Rattle.std.specs.Prelude.{ℕ, ◌+◌, ◌*◌, ◌/◌, ◌%◌, ◌<◌, Bool, List, eqb, leb, ltb, length, get_or, Result, Ok, Err}
 use Rattle.isa.specs.Choice.{pick}
 use Rattle.isa.specs.Numbers.{number_of, Answer, given, refused}
 use Rattle.isa.specs.Sheet.{entry_of, instruction_of}
 use Rattle.isa.specs.declared.Instruction.{Instruction}
 use Rattle.isa.specs.declared.Set.{Set}
+use Rattle.isa.specs.declared.Refusal.{Refusal}
 use Rattle.isa.specs.declared.table.Entry.{Entry}
 use Rattle.isa.specs.declared.Decoded.{Decoded}
-use Rattle.isa.specs.declared.Decoded.TheVariants.{Found, Unread}
 
 -- A program, and the set whose codes it is written in. "The caller names the set, Intel or NEC."
 pub record Program : Type 0 where
@@ -58,6 +58,6 @@ unfoldable pub read_of : Program → ℕ → Answer Sized
 read_of program a = pick (ltb 4096 (length program.bytes)) (refused 1) (instruction_at program a)
 
 -- The number and the values of each of the reader's answers.
-abbrev pub read_as : Decoded → Answer Sized
-read_as (Found i n) = given (sized i n)
-read_as (Unread r) = refused (number_of r)
+abbrev pub read_as : Result Decoded Refusal → Answer Sized
+read_as (Ok d) = given (sized d.instruction d.bytes)
+read_as (Err r) = refused (number_of r)

@@ -14,7 +14,8 @@ fn address(code: u8, d: u8) -> u16
 }
 
 // The instruction of row `kind` of specs/Sheet.antt, an arm a row, for the code `code` and the second byte `d`.
-// An arm takes its operand itself: taken before the match, the operands would cost time in every step.
+// An arm takes its operand itself: taken before the match, the operands would cost time in every step. The row is a number and no enum,
+// since make_of holds of every number: of one past the last row too.
 #[tactic(auto, using(crate::proofs::Arms::arm))]
 pub fn made(kind: u8, code: u8, d: u8) -> Instruction
     ensures { result ≡ make_of kind code d }

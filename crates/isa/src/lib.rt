@@ -11,18 +11,18 @@ pub mod table; // length, cycles and kind of each code
 // The longest program that there is.
 pub const PROGRAM_LIMIT: usize = 4096;
 
-// Why a call is refused, in the whole product; specs/Numbers.antt gives each its number.
+// Why a call is refused, in the whole product, with its number in document 01's table; specs/Numbers.antt has the same.
 #[derive(Clone, Copy)]
 pub enum Refusal {
-    ProgramLength,
-    RamLength,
-    StateOutside,
-    UndefinedCode,
-    PastEnd,
-    SampleBits,
-    LineTooShort,
-    OperandTooLarge,
-    SetUnknown,
+    ProgramLength = 1,
+    RamLength = 2,
+    StateOutside = 3,
+    UndefinedCode = 4,
+    PastEnd = 5,
+    SampleBits = 6,
+    LineTooShort = 7,
+    OperandTooLarge = 23,
+    SetUnknown = 25,
 }
 
 // Whose instruction set a program is written in: Intel's, or that of NEC's µPD80C49H, which adds HALT and STOP.
@@ -187,29 +187,18 @@ pub enum Instruction {
     Stop,
 }
 
-// What the reader answers.
+// What the reader finds: an instruction, and of how many bytes.
 #[derive(Clone, Copy)]
-pub enum Decoded {
-    // An instruction, and of how many bytes.
-    Found(Instruction, u8),
-    Unread(Refusal),
+pub struct Decoded {
+    pub instruction: Instruction,
+    pub bytes: u8,
 }
 
 // The number of a refusal in document 01's table.
 pub fn number(r: Refusal) -> u8
     ensures { result ≡ number_of r }
 {
-    match r {
-        Refusal::ProgramLength => 1,
-        Refusal::RamLength => 2,
-        Refusal::StateOutside => 3,
-        Refusal::UndefinedCode => 4,
-        Refusal::PastEnd => 5,
-        Refusal::SampleBits => 6,
-        Refusal::LineTooShort => 7,
-        Refusal::OperandTooLarge => 23,
-        Refusal::SetUnknown => 25,
-    }
+    r as u8
 }
 
 // The PC after `pc`: the low 11 bits count and wrap, bit 11 stays.
@@ -220,36 +209,34 @@ pub fn next_pc(pc: u16) -> u16
 }
 
 // The instruction whose first byte, at `pc`, is `code`.
-fn decoded_at(set: Set, program: &[u8], pc: u16, code: u8) -> Decoded
+#[tactic(auto, unfolding(crate::specs::Reading::decoded_at, crate::specs::Choice::pick))]
+fn decoded_at(set: Set, program: &[u8], pc: u16, code: u8) -> Result<Decoded, Refusal>
     ensures { read_as result ≡ decoded_at (under set program.now) pc code }
 {
-    let e = table::entry_of(set, code);
-    let bytes = e.bytes;
-    let kind = e.kind;
-    if bytes == 0 {
-        return Decoded::Unread(Refusal::UndefinedCode);
+    let entry = table::entry_of(set, code).ok_or(Refusal::UndefinedCode)?;
+    let alone = entry.bytes == 1;
+    if alone {
+        return Ok(Decoded {
+            instruction: decode::made(entry.kind, code, 0),
+            bytes: 1,
+        });
     }
-    if bytes == 1 {
-        return Decoded::Found(decode::made(kind, code, 0), 1);
-    }
-    let next = next_pc(pc) as usize;
-    if program.len() <= next {
-        return Decoded::Unread(Refusal::PastEnd);
-    }
-    Decoded::Found(decode::made(kind, code, program[next]), 2)
+    let d = *program.get(next_pc(pc) as usize).ok_or(Refusal::PastEnd)?;
+    Ok(Decoded {
+        instruction: decode::made(entry.kind, code, d),
+        bytes: 2,
+    })
 }
 
 // The instruction at an address of a program, which may have up to 4,096 bytes.
-pub fn read(set: Set, program: &[u8], address: usize) -> Decoded
+#[tactic(auto, unfolding(crate::specs::Reading::read_of, crate::specs::Reading::instruction_at, crate::specs::Choice::pick))]
+pub fn read(set: Set, program: &[u8], address: usize) -> Result<Decoded, Refusal>
     ensures { read_as result ≡ read_of (under set program.now) address }
 {
     let long = PROGRAM_LIMIT < program.len();
     if long {
-        return Decoded::Unread(Refusal::ProgramLength);
+        return Err(Refusal::ProgramLength);
     }
-    let past = program.len() <= address;
-    if past {
-        return Decoded::Unread(Refusal::PastEnd);
-    }
-    decoded_at(set, program, address as u16, program[address])
+    let code = *program.get(address).ok_or(Refusal::PastEnd)?;
+    decoded_at(set, program, address as u16, code)
 }

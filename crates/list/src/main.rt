@@ -2,7 +2,7 @@
 // Lists the program on standard input, line by line, by Intel's set: at most 4,096 bytes, or `refused 1`.
 ghost use Rattle.std.specs.Prelude.{◌≤◌, length, IfOk};
 
-use isa::{PROGRAM_LIMIT, Refusal, Set};
+use isa::{PROGRAM_LIMIT, Set};
 use listing::{LINE_BYTES, Listed};
 use std::io::{self, ErrorKind, Read, Write};
 
@@ -24,36 +24,29 @@ fn read_full<R: Read>(input: &mut R, buffer: &mut [u8]) -> io::Result<usize>
     ensures { IfOk result (λ n. n ≤ length buffer.new) }
 {
     let mut done = 0;
+    // No `for`: each step is as long as its read.
     while done < buffer.len() {
-        let n = read_some(input, &mut buffer[done..])?;
-        if n == 0 {
-            break;
+        match read_some(input, &mut buffer[done..])? {
+            0 => break,
+            n => done += n,
         }
-        done += n;
     }
     Ok(done)
 }
 
-// Prints `refused 1` for a program that is too long. No other refusal has a text: each line is asked for at an address that the program has,
-// with a buffer that is long enough, so there is none.
-fn write_refusal<W: Write>(output: &mut W, r: Refusal) -> io::Result<()> {
-    match r {
-        Refusal::ProgramLength => output.write_all(b"refused 1\n"),
-        _ => Ok(()),
-    }
-}
-
-// Prints a program's lines, each from where the bytes end that the one before shows.
+// Prints a program's lines, each from where the bytes end that the one before shows. A program that is too long is `refused 1`. No other
+// refusal comes: each line is asked for at an address that the program has, with a buffer that is long enough.
 fn write_lines<W: Write>(output: &mut W, program: &[u8]) -> io::Result<()> {
     let mut line = [0u8; LINE_BYTES];
     let mut at = 0;
+    // No `for`: each step is as long as its line's bytes.
     while at < program.len() {
         match listing::line(Set::Intel, program, at, &mut line) {
-            Listed::Printed(n, size) => {
-                output.write_all(&line[..n])?;
+            Ok(Listed { length, size }) => {
+                output.write_all(&line[..length])?;
                 at += size as usize;
             }
-            Listed::Unlisted(r) => return write_refusal(output, r),
+            Err(refusal) => return writeln!(output, "refused {}", isa::number(refusal)),
         }
     }
     Ok(())

@@ -29,8 +29,8 @@ pub record Sized (program : Program) (a : ℕ) : Type 0 where
 -- Of three tests that all hold, the last holds.
 last_of : (p q r : Bool) → (p && (q && r)) ≡ true → r ≡ true
 last_of true true r h = h
-last_of true false r h = let z : ◌≡◌ {A = ℕ} 0 1 = cc in absurd (omega arith)
-last_of false q r h = let z : ◌≡◌ {A = ℕ} 0 1 = cc in absurd (omega arith)
+last_of true false r h = cc
+last_of false q r h = cc
 
 -- By the tests that choose a line of two bytes: the last of them is that the second byte is there.
 pub size-at : (program : Program) (a : ℕ) → Sized program a
@@ -62,9 +62,9 @@ line-given program a room n size small e = go (ltb 4096 (length program.bytes)) 
         (p q r : Bool) → lacks program.bytes a ≡ r
         → given (shown n size) ≡ pick p (refused 1) (pick q (refused 7) (pick r (refused 5) (given (shown (length (line_at program a)) (size_at program a)))))
         → Given program.bytes a n size
-    go true q r l e = let z : ◌≡◌ {A = ℕ} 0 1 = cc in absurd (omega arith)
-    go false true r l e = let z : ◌≡◌ {A = ℕ} 0 1 = cc in absurd (omega arith)
-    go false false true l e = let z : ◌≡◌ {A = ℕ} 0 1 = cc in absurd (omega arith)
+    go true q r l e = cc
+    go false true r l e = cc
+    go false false true l e = cc
     go false false false l e =
         let long : n ≡ length (line_at program a) = cc in
         let shows : size ≡ size_at program a = cc in

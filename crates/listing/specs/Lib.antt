@@ -1,3 +1,4 @@
 pub mod Draft
+pub mod Item
 pub mod Listing
 pub mod Text

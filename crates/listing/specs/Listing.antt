@@ -1,13 +1,13 @@
 -- The line of a listing at an address of a program, what the routine answers and leaves in its buffer, and the listing of a whole program.
 -- Assumes nothing.
-use Rattle.std.specs.Prelude.{ℕ, zero, suc, ◌+◌, ◌%◌, Bool, ◌&&◌, List, [], ◌++◌, ltb, eqb, length, drop}
+use Rattle.std.specs.Prelude.{ℕ, zero, suc, ◌+◌, ◌%◌, Bool, ◌&&◌, List, [], ◌++◌, ltb, eqb, length, drop, Result, Ok, Err}
 use Rattle.isa.specs.Choice.{pick, listed}
 use Rattle.isa.specs.Numbers.{number_of, Answer, given, refused}
 use Rattle.isa.specs.Reading.{Program, lacks, byte_at, entry_at}
+use Rattle.isa.specs.declared.Refusal.{Refusal}
 use Rattle.isa.specs.declared.table.Entry.{Entry}
 use Rattle.listing.specs.Text.{line_one, line_two}
 use Rattle.listing.specs.declared.Listed.{Listed}
-use Rattle.listing.specs.declared.Listed.TheVariants.{Printed, Unlisted}
 
 -- Two bytes are shown: the code has two, it does not stand "at 7FF or FFF", and it does not lack its second byte.
 abbrev pub two_at : List ℕ → ℕ → Entry → Bool
@@ -47,9 +47,9 @@ line_after program a old =
     (pick (lacks program.bytes a) old (line_at program a ++ drop (length (line_at program a)) old)))
 
 -- The number and the values of each of the routine's answers.
-abbrev pub listed_as : Listed → Answer Shown
-listed_as (Printed n size) = given (shown n size)
-listed_as (Unlisted r) = refused (number_of r)
+abbrev pub listed_as : Result Listed Refusal → Answer Shown
+listed_as (Ok line) = given (shown line.length line.size)
+listed_as (Err r) = refused (number_of r)
 
 -- The lines from an address on, at most n of them: one after the other, each after the bytes that the one before shows.
 unfoldable pub lines_from : ℕ → Program → ℕ → List ℕ

@@ -1,47 +1,32 @@
 -- What a step sees is what its fetches find, address by address.
 -- Assumes nothing.
 use Prim.Native.Nat.{ℕ, ◌+◌, ◌-◌, ◌≤◌, ◌<◌}
-use mathlib.Core.Bool.{Bool, true, false, not, false≢true}
+use mathlib.Core.Bool.{Bool, true, false}
 use mathlib.Core.List.{List, ◌++◌}
-use mathlib.Core.Logic.{◌⊎◌, inl, inr}
 use mathlib.Core.Path.{◌≡◌, refl, sym, ap, ◌∙◌}
 use native.Mathlib.Omega.{arith}
-use lib.Dec.{leb}
+use lib.Dec.{leb, ltb}
 use lib.ListN.{length, get_or, drop, length-append, length-drop, get_or-append, get_or-eq_default}
 use lib.Seq.{get_or-append-add, get_or-drop}
-use borrow.Author.Tests.{leb-true, leb-false, le-leb, lt-leb}
+use borrow.Author.Tests.{leb-true, leb-false, ltb-true, ltb-false, le-leb, lt-leb}
+use Rattle.std.specs.Prelude.{Option, None, Some}
+use Rattle.std.specs.Option.{is_some, option_map, unwrap_or}
+use Rattle.std.proofs.lemmas.Option.{none-some, same_Some}
 use Rattle.isa.specs.Choice.{pick}
 use Rattle.isa.specs.Reading.{lacks, byte_at}
-use Rattle.machine.specs.Rom.{visible, fetched, answering}
-use Rattle.machine.specs.declared.rom.Byte.{Byte}
-use Rattle.machine.specs.declared.rom.Memory.TheVariants.{Internal, External}
+use Rattle.machine.specs.Rom.{Byte, bytes_of, visible, fetched, answering, found_of}
+use Rattle.machine.specs.declared.rom.Memory.{Memory}
+use Rattle.machine.specs.declared.rom.Memory.TheVariants.{Internal}
 
 module _ (inside outside : List ℕ) where
-  -- What a fetch answers, by who must answer and whether it has the byte.
-  pub from-inside :
-      (ea : Bool) (a : ℕ) → not ea ≡ true → a < length inside
-      → record { memory = Internal; lacking = false; value = byte_at inside a } ≡ fetched inside outside ea a
-  unfolding fetched pick
-  from-inside true a e l = absurd (false≢true e)
-  from-inside false a e l = rw (lt-leb _ _ l) (rw (lt-leb _ _ l))
-
-  must-outside : (ea : Bool) (a : ℕ) → (not ea ≡ false) ⊎ (length inside ≤ a) → answering inside ea a ≡ External
-  unfolding pick
-  must-outside true a w = refl
-  must-outside false a (inl e) = absurd (false≢true (sym e))
-  must-outside false a (inr l) = rw (le-leb _ _ l)
-
-  pub from-outside :
-      (ea : Bool) (a : ℕ) → (not ea ≡ false) ⊎ (length inside ≤ a) → a < length outside
-      → record { memory = External; lacking = false; value = byte_at outside a } ≡ fetched inside outside ea a
-  unfolding fetched
-  from-outside ea a w l = rw (must-outside ea a w, lt-leb _ _ l)
-
-  pub nowhere :
-      (ea : Bool) (a : ℕ) → (not ea ≡ false) ⊎ (length inside ≤ a) → length outside ≤ a
-      → record { memory = External; lacking = true; value = 0 } ≡ fetched inside outside ea a
-  unfolding fetched
-  nowhere ea a w l = rw (must-outside ea a w, le-leb _ _ l, get_or-eq_default outside 0 l)
+  -- What a fetch answers: what `get` finds in the memory that must answer.
+  pub found-by :
+      {A : Type 0} (f : A → ℕ) (m : Memory) (ea : Bool) (a : ℕ) (r : Option A) → m ≡ answering inside ea a
+      → is_some r ≡ ltb a (length (bytes_of m inside outside)) → unwrap_or (option_map f r) 0 ≡ byte_at (bytes_of m inside outside) a
+      → option_map f r ≡ found_of (fetched inside outside ea a)
+  unfolding fetched found_of pick
+  found-by f m ea a None e h v = rw (← e, le-leb _ _ (ltb-false _ _ (sym h)))
+  found-by f m ea a (Some x) e h v = rw (← e, lt-leb _ _ (ltb-true _ _ (sym h)), v)
 
   -- Past the internal end the second program's bytes stand at their own addresses.
   past : (a : ℕ) → length inside ≤ a → get_or (inside ++ drop (length inside) outside) a 0 ≡ get_or outside a 0
@@ -91,7 +76,8 @@ module _ (inside outside : List ℕ) where
   -- With EA low a byte that the chip has is the one that is seen.
   module _ (ea : Bool) (a : ℕ) (low : ea ≡ false) (there : a < length inside) where
     is-inside : record { memory = Internal; lacking = false; value = byte_at inside a } ≡ fetched inside outside ea a
-    is-inside = from-inside ea a (rw low) there
+    unfolding fetched pick
+    is-inside = rw (low, lt-leb _ _ there) (rw (lt-leb _ _ there))
 
     pub inside-lacks : lacks (visible inside outside ea) a ≡ false
     inside-lacks = visible-lacks ea a ∙ ap (λ (x : Byte). x.lacking) (sym is-inside)
@@ -99,10 +85,34 @@ module _ (inside outside : List ℕ) where
     pub inside-byte : byte_at (visible inside outside ea) a ≡ byte_at inside a
     inside-byte = visible-byte ea a ∙ ap (λ (x : Byte). x.value) (sym is-inside)
 
-  -- The same of what a call of `fetch` answered.
-  module _ (ea : Bool) (a : ℕ) (r : Byte) (e : r ≡ fetched inside outside ea a) where
-    pub found-lacking : {b : Bool} → r.lacking ≡ b → lacks (visible inside outside ea) a ≡ b
-    found-lacking h = visible-lacks ea a ∙ ap (λ (x : Byte). x.lacking) (sym e) ∙ h
+  -- The same of what a call of `fetch` answered: nothing where a byte is lacking, else the byte that is seen.
+  module _ (ea : Bool) (a : ℕ) (r : Option ℕ) (e : r ≡ found_of (fetched inside outside ea a)) where
+    pub found-is : r ≡ pick (lacks (visible inside outside ea) a) None (Some (byte_at (visible inside outside ea) a))
+    unfolding found_of
+    found-is = rw (visible-lacks ea a, visible-byte ea a) e
 
-    pub found-byte : r.value ≡ byte_at (visible inside outside ea) a
-    found-byte = ap (λ (x : Byte). x.value) e ∙ sym (visible-byte ea a)
+    pub found-lacking : r ≡ None → lacks (visible inside outside ea) a ≡ true
+    unfolding pick
+    found-lacking h = go (lacks (visible inside outside ea) a) found-is
+      where
+        go : (b : Bool) → r ≡ pick b None (Some (byte_at (visible inside outside ea) a)) → b ≡ true
+        go true w = refl
+        go false w = absurd (none-some _ (sym h ∙ w))
+
+    pub found-byte : {v : ℕ} → r ≡ Some v → (lacks (visible inside outside ea) a ≡ false) × (v ≡ byte_at (visible inside outside ea) a)
+    unfolding pick
+    found-byte {v} h = go (lacks (visible inside outside ea) a) found-is
+      where
+        go : (b : Bool) → r ≡ pick b None (Some (byte_at (visible inside outside ea) a)) → (b ≡ false) × (v ≡ byte_at (visible inside outside ea) a)
+        go true w = absurd (none-some v (sym w ∙ h))
+        go false w = (refl, same_Some _ _ (sym h ∙ w))
+
+    pub found-or-zero : unwrap_or r 0 ≡ byte_at (visible inside outside ea) a
+    unfolding pick
+    found-or-zero = go (lacks (visible inside outside ea) a) refl found-is
+      where
+        go :
+            (b : Bool) → lacks (visible inside outside ea) a ≡ b → r ≡ pick b None (Some (byte_at (visible inside outside ea) a))
+            → unwrap_or r 0 ≡ byte_at (visible inside outside ea) a
+        go true l w = rw w (sym (get_or-eq_default (visible inside outside ea) 0 (leb-true _ _ l)))
+        go false l w = rw w

@@ -1,11 +1,11 @@
 -- Program memory: the program in the chip, and a second one outside of it, or none (document 02, item 7).
 -- Assumes nothing.
-use Rattle.std.specs.Prelude.{ℕ, Bool, ◌||◌, List, [], ◌++◌, length, drop}
+use Rattle.std.specs.Prelude.{ℕ, Bool, ◌||◌, List, [], ◌++◌, length, drop, Option, None, Some}
 use Rattle.isa.specs.Choice.{pick}
 use Rattle.isa.specs.Reading.{Program, under, lacks, byte_at}
 use Rattle.isa.specs.declared.Set.{Set}
 use Rattle.machine.specs.Pins.{ea_pin, is_high}
-use Rattle.machine.specs.declared.rom.Byte.{Byte}
+use Rattle.machine.specs.declared.rom.Lent.{Lent}
 use Rattle.machine.specs.declared.rom.Memory.{Memory}
 use Rattle.machine.specs.declared.rom.Memory.TheVariants.{Internal, External}
 
@@ -17,6 +17,12 @@ abbrev pub bytes_of : Memory → List ℕ → List ℕ → List ℕ
 bytes_of Internal inside outside = inside
 bytes_of External inside outside = outside
 
+-- What a fetch finds: the memory that must answer, whether it lacks the byte, and the byte, 0 where it is lacking.
+pub record Byte : Type 0 where
+  pub memory : Memory
+  pub lacking : Bool
+  pub value : ℕ
+
 -- A fetch: "the fetch now says which memory answered".
 abbrev pub fetched_by : Memory → List ℕ → List ℕ → ℕ → Byte
 fetched_by m inside outside a =
@@ -24,6 +30,10 @@ fetched_by m inside outside a =
 
 unfoldable pub fetched : List ℕ → List ℕ → Bool → ℕ → Byte
 fetched inside outside ea a = fetched_by (answering inside ea a) inside outside a
+
+-- The byte alone, if it is not lacking.
+unfoldable pub found_of : Byte → Option ℕ
+found_of b = pick b.lacking None (Some b.value)
 
 -- All that a step may fetch, as one program: at each address it has the byte that a fetch finds, and it lacks what a fetch lacks (the laws
 -- `visible-lacks` and `visible-byte`).
@@ -38,6 +48,10 @@ pub record Roms : Type 0 where
 
 abbrev pub both : Set → List ℕ → List ℕ → Roms
 both set inside outside = record { set = set; inside = inside; outside = outside }
+
+-- The code's own type has both as slices.
+abbrev pub lent_as : Lent → Roms
+lent_as l = both l.set l.program.now l.outside.now
 
 abbrev pub alone : Set → List ℕ → Roms
 alone set inside = both set inside []

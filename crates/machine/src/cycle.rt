@@ -40,11 +40,9 @@ fn keep(c: Count, divider: u8, t1: bool) -> Count
     ensures { (enabled : Bool) → result ≡ advanced c divider 0 t1 enabled }
 {
     Count {
-        t: c.t,
         divider,
-        tf: c.tf,
-        request: c.request,
         last: t1,
+        ..c
     }
 }
 

@@ -81,12 +81,7 @@ pub struct Count {
 pub fn is_running(m: Mode) -> bool
     ensures { result ≡ is_running m }
 {
-    match m {
-        Mode::Running => true,
-        Mode::HaltMode => false,
-        Mode::StopMode => false,
-        Mode::Released => false,
-    }
+    matches!(m, Mode::Running)
 }
 
 // Whether a set has the mode.
@@ -162,216 +157,80 @@ impl State {
     pub fn is_permitted(self, set: Set) -> bool
         ensures { result ≡ permitted set self }
     {
-        let mode = self.mode;
+        // (With && in place of &, a step of a run takes six instructions more: docs/PERFORMANCE.md.)
         (self.pc < Self::PC_LIMIT)
             & ((self.divider as u16) < Self::DIVIDER_LIMIT)
             & (self.psw / 8 % 2 == 1)
-            & is_allowed(set, mode)
+            & is_allowed(set, self.mode)
     }
 
-    // The changes of a state. Each of the first eight builds it anew from all its parts, and the others call one of those: a part that is
-    // copied by itself stays apart in the machine code (docs/PERFORMANCE.md).
+    // The changes of a state. The first eight say the parts that change, and the others call one of those.
     pub fn with_core(self, a: u8, pc: u16, psw: u8) -> Self
         ensures { result ≡ with_core self a pc psw }
     {
-        let mode = self.mode;
-        let counting = self.counting;
-        let interrupts = self.interrupts;
-        let ports = self.ports;
-        State {
-            mode,
-            a,
-            pc,
-            psw,
-            counting,
-            t: self.t,
-            divider: self.divider,
-            tf: self.tf,
-            request: self.request,
-            last: self.last,
-            f1: self.f1,
-            dbf: self.dbf,
-            clock: self.clock,
-            interrupts,
-            ports,
-        }
+        State { a, pc, psw, ..self }
     }
 
     pub fn with_flags(self, f1: bool, dbf: bool, clock: bool) -> Self
         ensures { result ≡ with_flags self f1 dbf clock }
     {
-        let mode = self.mode;
-        let counting = self.counting;
-        let interrupts = self.interrupts;
-        let ports = self.ports;
         State {
-            mode,
-            a: self.a,
-            pc: self.pc,
-            psw: self.psw,
-            counting,
-            t: self.t,
-            divider: self.divider,
-            tf: self.tf,
-            request: self.request,
-            last: self.last,
             f1,
             dbf,
             clock,
-            interrupts,
-            ports,
+            ..self
         }
     }
 
     pub fn with_count(self, c: Count) -> Self
         ensures { result ≡ with_count self c }
     {
-        let mode = self.mode;
-        let counting = self.counting;
-        let interrupts = self.interrupts;
-        let ports = self.ports;
         State {
-            mode,
-            a: self.a,
-            pc: self.pc,
-            psw: self.psw,
-            counting,
             t: c.t,
             divider: c.divider,
             tf: c.tf,
             request: c.request,
             last: c.last,
-            f1: self.f1,
-            dbf: self.dbf,
-            clock: self.clock,
-            interrupts,
-            ports,
+            ..self
         }
     }
 
     pub fn with_counting(self, counting: Counting, divider: u8) -> Self
         ensures { result ≡ with_counting self counting divider }
     {
-        let mode = self.mode;
-        let interrupts = self.interrupts;
-        let ports = self.ports;
         State {
-            mode,
-            a: self.a,
-            pc: self.pc,
-            psw: self.psw,
             counting,
-            t: self.t,
             divider,
-            tf: self.tf,
-            request: self.request,
-            last: self.last,
-            f1: self.f1,
-            dbf: self.dbf,
-            clock: self.clock,
-            interrupts,
-            ports,
+            ..self
         }
     }
 
     pub fn with_interrupts(self, interrupts: Interrupts) -> Self
         ensures { result ≡ with_interrupts self interrupts }
     {
-        let mode = self.mode;
-        let counting = self.counting;
-        let ports = self.ports;
-        State {
-            mode,
-            a: self.a,
-            pc: self.pc,
-            psw: self.psw,
-            counting,
-            t: self.t,
-            divider: self.divider,
-            tf: self.tf,
-            request: self.request,
-            last: self.last,
-            f1: self.f1,
-            dbf: self.dbf,
-            clock: self.clock,
-            interrupts,
-            ports,
-        }
+        State { interrupts, ..self }
     }
 
     pub fn with_ports(self, ports: Ports) -> Self
         ensures { result ≡ with_ports self ports }
     {
-        let mode = self.mode;
-        let counting = self.counting;
-        let interrupts = self.interrupts;
-        State {
-            mode,
-            a: self.a,
-            pc: self.pc,
-            psw: self.psw,
-            counting,
-            t: self.t,
-            divider: self.divider,
-            tf: self.tf,
-            request: self.request,
-            last: self.last,
-            f1: self.f1,
-            dbf: self.dbf,
-            clock: self.clock,
-            interrupts,
-            ports,
-        }
+        State { ports, ..self }
     }
 
     pub fn with_mode(self, mode: Mode) -> Self
         ensures { result ≡ with_mode self mode }
     {
-        let counting = self.counting;
-        let interrupts = self.interrupts;
-        let ports = self.ports;
-        State {
-            mode,
-            a: self.a,
-            pc: self.pc,
-            psw: self.psw,
-            counting,
-            t: self.t,
-            divider: self.divider,
-            tf: self.tf,
-            request: self.request,
-            last: self.last,
-            f1: self.f1,
-            dbf: self.dbf,
-            clock: self.clock,
-            interrupts,
-            ports,
-        }
+        State { mode, ..self }
     }
 
     // An instruction begins: PC is past it, and what a release held back is over.
     pub fn running_at(self, next: u16) -> Self
         ensures { result ≡ running_at self next }
     {
-        let counting = self.counting;
-        let interrupts = self.interrupts;
-        let ports = self.ports;
         State {
             mode: Mode::Running,
-            a: self.a,
             pc: next,
-            psw: self.psw,
-            counting,
-            t: self.t,
-            divider: self.divider,
-            tf: self.tf,
-            request: self.request,
-            last: self.last,
-            f1: self.f1,
-            dbf: self.dbf,
-            clock: self.clock,
-            interrupts,
-            ports,
+            ..self
         }
     }
 

@@ -1,3 +1,11 @@
+// The pin samples of a step, and the bits of a sample.
+// Instructions look at a step's first two samples. "Tests of T0, T1 and INT use the first sample; ports and BUS the second."
+#[derive(Clone, Copy)]
+pub struct Pins {
+    pub first: u32,
+    pub second: u32,
+}
+
 // The bits of a pin sample, each named by its weight; BUS has the lowest eight. Of P1 and P2 it is their lowest bit's.
 pub const P1: u32 = 0x100;
 

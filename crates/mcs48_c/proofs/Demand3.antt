@@ -25,8 +25,7 @@ use Rattle.chip.specs.Admission.{lent_of}
 use Rattle.chip.specs.History.{plan_at, after, Steps, cycle, CarriesOut, Undisturbed, AllUndisturbed, JustStarted, CallTo7, History, StepWith, up_to, HistoryOf, overflow_cycle, Asked, until, next, Called}
 use Rattle.chip.specs.History.{none as no_steps, more as one-more}
 use Rattle.chip.specs.Run.{Progress, Ended, begun, ended, run_of}
-use Rattle.chip.specs.Step.{step_of}
-use Rattle.chip.specs.declared.Outcome.{Outcome}
+use Rattle.chip.specs.Step.{step_of, Outcome}
 use Rattle.chip.proofs.Answering.{step-enabled, left-tf, left-request, call-law, within-3}
 use Rattle.chip.proofs.Cycles.{Running, one-or-two, at-start}
 use Rattle.demands.proofs.Demand3.{count-after, tf-left, request-left, called-in-time}

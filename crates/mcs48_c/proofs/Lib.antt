@@ -1,7 +1,7 @@
 pub mod AtStart
-pub mod Copying
 pub mod Demand3
 pub mod Example
+pub mod Inside
 pub mod Lines
 pub mod Naming
 pub mod NoSet

@@ -1,6 +1,6 @@
 -- The length of a listing's line fits a byte.
 -- Assumes nothing.
-use mathlib.Core.Path.{◌≡◌, sym, ◌∙◌}
+use mathlib.Core.Path.{◌≡◌, sym}
 use mathlib.Core.Bool.{Bool, true, false}
 use Prim.Native.Nat.{ℕ, ◌%◌, ◌≤◌, ◌<◌}
 use native.Mathlib.Omega.{arith}
@@ -9,9 +9,7 @@ use lib.ListN.{length}
 use Rattle.isa.specs.Choice.{pick}
 use Rattle.isa.specs.Numbers.{given, refused}
 use Rattle.isa.specs.Reading.{Program, lacks, byte_at}
-use Rattle.listing.specs.Listing.{shown, line_at, size_at, listed_of, listed_as}
-use Rattle.listing.specs.declared.Listed.{Listed}
-use Rattle.listing.specs.declared.Listed.TheVariants.{Printed}
+use Rattle.listing.specs.Listing.{shown, line_at, size_at, listed_of}
 use Rattle.listing.proofs.Short.{line-short}
 use Rattle.mcs48_c.specs.Packed.{packed, packed_line}
 
@@ -33,10 +31,8 @@ module _ (program : Program) (a room : ℕ) (small : byte_at program.bytes a < 2
           omega arith
 
   pub printed :
-      {r : Listed} {n size : ℕ} → listed_as r ≡ listed_of program a room → r ≡ Printed n size
-      → packed 0 (n % 256) 0 size 0 ≡ packed_line (listed_of program a room)
-  printed {r} {n} {size} lists is =
-      let e : listed_of program a room ≡ given (shown n size) = sym lists ∙ rw is in
-      let fits = listed-short n size e in
+      {n size : ℕ} → given (shown n size) ≡ listed_of program a room → packed 0 (n % 256) 0 size 0 ≡ packed_line (listed_of program a room)
+  printed {n} {size} e =
+      let fits = listed-short n size (sym e) in
       let same : n % 256 ≡ n = omega arith in
-      rw (e, same)
+      rw (← e, same)

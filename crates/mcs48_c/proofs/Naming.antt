@@ -11,13 +11,12 @@ use Rattle.isa.specs.Numbers.{Answer, given, refused}
 use Rattle.isa.specs.declared.Set.{Set}
 use Rattle.isa.specs.declared.Set.TheVariants.{Intel, Nec}
 use Rattle.mcs48_c.specs.Naming.{set_of, named_as}
-use Rattle.mcs48_c.specs.declared.Named.{Named}
-use Rattle.mcs48_c.specs.declared.Named.TheVariants.{Known, Unknown}
+use Rattle.std.specs.Prelude.{Option, Some, None}
 
-pub known : {r : Named} {x : Answer Set} {set : Set} → named_as r ≡ x → r ≡ Known set → x ≡ given set
+pub known : {r : Option Set} {x : Answer Set} {set : Set} → named_as r ≡ x → r ≡ Some set → x ≡ given set
 known e is = sym e ∙ rw is
 
-pub unknown : {r : Named} {x : Answer Set} → named_as r ≡ x → r ≡ Unknown → x ≡ refused 25
+pub unknown : {r : Option Set} {x : Answer Set} → named_as r ≡ x → r ≡ None → x ≡ refused 25
 unknown e is = sym e ∙ rw is
 
 -- A number names a set, or is refused by 25.

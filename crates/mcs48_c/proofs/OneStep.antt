@@ -14,10 +14,8 @@ use Rattle.machine.specs.declared.State.{State}
 use Rattle.effects.specs.Effect.{Nothing, written}
 use Rattle.effects.specs.declared.Event.TheVariants.{Quiet}
 use Rattle.chip.specs.Admission.{lent_of, admission}
-use Rattle.chip.specs.Run.{Ended, begun, first_shown, run_by, run_over, run_of, unshown}
-use Rattle.chip.specs.Step.{Plan, declined, course, plan_by, plan_of, refused_by, report_of, step_of, ram_after}
-use Rattle.chip.specs.declared.Outcome.{Outcome}
-use Rattle.chip.specs.declared.Ran.{Ran}
+use Rattle.chip.specs.Run.{Ended, begun, first_shown, run_by, run_over, run_of, unshown, Ran}
+use Rattle.chip.specs.Step.{Plan, declined, course, plan_by, plan_of, refused_by, report_of, step_of, ram_after, Outcome}
 use Rattle.chip.proofs.Exactly.{Unchanged, refused-step, refused-unchanged}
 use Rattle.chip.proofs.Lasting.{Spends, in_cycles, in_waiting, plan-busy}
 use Rattle.mcs48_c.specs.Bytes.{state_of, holding}

@@ -6,10 +6,8 @@ use Rattle.isa.specs.Choice.{pick}
 use Rattle.isa.specs.Numbers.{Answer, refused}
 use Rattle.isa.specs.Reading.{Sized, under, read_of}
 use Rattle.machine.specs.Rom.{both}
-use Rattle.chip.specs.Run.{Ended, begun, ended, first_shown, run_of, unshown}
-use Rattle.chip.specs.Step.{refused_by, step_of, ram_after}
-use Rattle.chip.specs.declared.Outcome.{Outcome}
-use Rattle.chip.specs.declared.Ran.{Ran}
+use Rattle.chip.specs.Run.{Ended, begun, ended, first_shown, run_of, unshown, Ran}
+use Rattle.chip.specs.Step.{refused_by, step_of, ram_after, Outcome}
 use Rattle.chip.specs.declared.Report.{Report}
 use Rattle.listing.specs.Listing.{Shown, listed_of, line_after}
 use Rattle.mcs48_c.specs.declared.Spent.{Spent}

@@ -6,7 +6,7 @@ use Rattle.isa.specs.Numbers.{Answer, given, refused}
 use Rattle.isa.specs.Reading.{Sized, sized, byte_at, next_pc}
 use Rattle.effects.specs.Events.{event_as}
 use Rattle.effects.specs.declared.Event.{Event}
-use Rattle.chip.specs.declared.Outcome.{Outcome}
+use Rattle.chip.specs.Step.{Outcome}
 use Rattle.listing.specs.Listing.{Shown, shown}
 
 -- Bytes 0 to 4 of a number, the lowest first.

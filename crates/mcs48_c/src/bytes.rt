@@ -1,68 +1,52 @@
 // The machine state as 24 bytes.
-ghost use Rattle.std.specs.Prelude.{◌≡◌, ◌+◌, ◌*◌, length};
-ghost use Rattle.mcs48_c.specs.Bytes.{bytes_of, counting_byte, counting_of, mode_byte, mode_of, formed, holding, outside, state_in, state_of};
+ghost use Rattle.std.specs.Prelude.{◌≡◌, eqb, ltb, is_some, IfSome};
+ghost use Rattle.mcs48_c.specs.Bytes.{bytes_of, counting_of, mode_of, formed, holding, outside, state_in, state_of};
 
 use machine::{Counting, Interrupts, Mode, Ports, State};
 
-fn word(low: u8, high: u8) -> u16
-    ensures { result ≡ low + high * 256 }
+// A flag's byte is 0 or 1.
+fn flag(b: u8) -> Option<bool>
+    ensures known { is_some result ≡ ltb b 2 }
+    ensures is { IfSome result (λ on. on ≡ eqb b 1) }
 {
-    low as u16 + high as u16 * 256
-}
-
-fn counting_byte(c: Counting) -> u8
-    ensures { result ≡ counting_byte c }
-{
-    match c {
-        Counting::Stopped => 0,
-        Counting::Timer => 1,
-        Counting::Counter => 2,
+    match b {
+        0 => Some(false),
+        1 => Some(true),
+        _ => None,
     }
 }
 
-fn counting_of(n: u8) -> Counting
-    ensures { result ≡ counting_of n }
+#[tactic(auto, unfolding(crate::specs::Bytes::counting_of, isa::specs::Choice::pick))]
+fn counting_of(n: u8) -> Option<Counting>
+    ensures known { is_some result ≡ ltb n 3 }
+    ensures is { IfSome result (λ c. c ≡ counting_of n) }
 {
-    if n == 0 {
-        return Counting::Stopped;
-    }
-    if n == 1 {
-        return Counting::Timer;
-    }
-    Counting::Counter
-}
-
-fn mode_byte(m: Mode) -> u8
-    ensures { result ≡ mode_byte m }
-{
-    match m {
-        Mode::Running => 0,
-        Mode::HaltMode => 1,
-        Mode::StopMode => 2,
-        Mode::Released => 3,
+    match n {
+        0 => Some(Counting::Stopped),
+        1 => Some(Counting::Timer),
+        2 => Some(Counting::Counter),
+        _ => None,
     }
 }
 
-fn mode_of(n: u8) -> Mode
-    ensures { result ≡ mode_of n }
+#[tactic(auto, unfolding(crate::specs::Bytes::mode_of, isa::specs::Choice::pick))]
+fn mode_of(n: u8) -> Option<Mode>
+    ensures known { is_some result ≡ ltb n 4 }
+    ensures is { IfSome result (λ m. m ≡ mode_of n) }
 {
-    if n == 0 {
-        return Mode::Running;
+    match n {
+        0 => Some(Mode::Running),
+        1 => Some(Mode::HaltMode),
+        2 => Some(Mode::StopMode),
+        3 => Some(Mode::Released),
+        _ => None,
     }
-    if n == 1 {
-        return Mode::HaltMode;
-    }
-    if n == 2 {
-        return Mode::StopMode;
-    }
-    Mode::Released
 }
 
+#[tactic(auto, unfolding(crate::specs::Bytes::bytes_of))]
 fn bytes_of(s: State) -> [u8; 24]
     ensures { result ≡ bytes_of s }
 {
-    let counting = s.counting;
-    let mode = s.mode;
     let i = s.interrupts;
     let p = s.ports;
     [
@@ -74,7 +58,7 @@ fn bytes_of(s: State) -> [u8; 24]
         s.dbf as u8,
         s.t,
         s.divider,
-        counting_byte(counting),
+        s.counting as u8,
         s.tf as u8,
         s.request as u8,
         i.external as u8,
@@ -86,66 +70,48 @@ fn bytes_of(s: State) -> [u8; 24]
         p.p2,
         p.bus,
         p.driven as u8,
-        mode_byte(mode),
+        s.mode as u8,
         0,
         0,
         0,
     ]
 }
 
-// Whether 24 bytes are those of a state.
-fn is_formed(b: &[u8]) -> bool
-    requires { length b.now ≡ 24 }
-    ensures { result ≡ formed b.now }
+// The state whose bytes they are, if they are those of a state. A pattern that names the 24 bytes was tried: with it a step of a run
+// takes 132.1 instructions, above the bound of 126 (docs/PERFORMANCE.md).
+fn state_in(b: &[u8; 24]) -> Option<State>
+    ensures known { is_some result ≡ formed b.now }
+    ensures is { IfSome result (λ s. s ≡ state_in b.now) }
 {
-    (b[4] < 2)
-        & (b[5] < 2)
-        & (b[8] < 3)
-        & (b[9] < 2)
-        & (b[10] < 2)
-        & (b[11] < 2)
-        & (b[12] < 2)
-        & (b[13] < 2)
-        & (b[14] < 2)
-        & (b[15] < 2)
-        & (b[19] < 2)
-        & (b[20] < 4)
-        & (b[21] == 0)
-        & (b[22] == 0)
-        & (b[23] == 0)
-}
-
-// The state whose bytes they are.
-fn state_in(b: &[u8]) -> State
-    requires { length b.now ≡ 24 }
-    ensures { result ≡ state_in b.now }
-{
-    State {
+    if b[21] != 0 || b[22] != 0 || b[23] != 0 {
+        return None;
+    }
+    Some(State {
+        mode: mode_of(b[20])?,
         a: b[0],
+        pc: u16::from_le_bytes([b[1], b[2]]),
         psw: b[3],
+        counting: counting_of(b[8])?,
         t: b[6],
         divider: b[7],
-        tf: b[9] == 1,
-        request: b[10] == 1,
-        last: b[14] == 1,
-        f1: b[4] == 1,
-        dbf: b[5] == 1,
-        clock: b[15] == 1,
+        tf: flag(b[9])?,
+        request: flag(b[10])?,
+        last: flag(b[14])?,
+        f1: flag(b[4])?,
+        dbf: flag(b[5])?,
+        clock: flag(b[15])?,
         interrupts: Interrupts {
-            external: b[11] == 1,
-            tcnti: b[12] == 1,
-            service: b[13] == 1,
+            external: flag(b[11])?,
+            tcnti: flag(b[12])?,
+            service: flag(b[13])?,
         },
         ports: Ports {
             p1: b[16],
             p2: b[17],
             bus: b[18],
-            driven: b[19] == 1,
+            driven: flag(b[19])?,
         },
-        pc: word(b[1], b[2]),
-        counting: counting_of(b[8]),
-        mode: mode_of(b[20]),
-    }
+    })
 }
 
 fn outside_state() -> State
@@ -155,29 +121,22 @@ fn outside_state() -> State
 }
 
 // What lent bytes stand for: a state outside its sizes where no state has such bytes, so that the chip itself refuses them.
+#[tactic(auto, unfolding(crate::specs::Bytes::state_of, isa::specs::Choice::pick))]
 pub fn state_of(b: &[u8]) -> State
     ensures { result ≡ state_of b.now }
 {
-    if b.len() != 24 {
-        return outside_state();
+    match b.as_array::<24>() {
+        Some(bytes) => state_in(bytes).unwrap_or(outside_state()),
+        None => outside_state(),
     }
-    let fine = is_formed(b);
-    if fine {
-        return state_in(b);
-    }
-    outside_state()
 }
 
 // Writes a state to a lent buffer, if that has 24 bytes.
+#[tactic(auto, unfolding(crate::specs::Bytes::holding, isa::specs::Choice::pick))]
 pub fn hold(b: &mut [u8], s: State)
     ensures { b.new ≡ holding b.old s }
 {
-    if b.len() == 24 {
-        let bytes = bytes_of(s);
-        let mut i = 0;
-        while i < 24 {
-            b[i] = bytes[i];
-            i += 1;
-        }
+    if let Some(bytes) = b.as_mut_array::<24>() {
+        *bytes = bytes_of(s);
     }
 }

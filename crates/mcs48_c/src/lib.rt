@@ -2,9 +2,8 @@
 // The C interface; the crate mcs48_c_c exports its functions. include/mcs48.h documents each of them for its users.
 ghost use Rattle.std.specs.Prelude.{◌≡◌, length};
 ghost use Rattle.isa.specs.Choice.{pick};
-ghost use Rattle.isa.specs.Reading.{byte_at, decoded_at, under};
 ghost use Rattle.machine.specs.State.{power_up};
-ghost use Rattle.chip.specs.Run.{unshown};
+ghost use Rattle.chip.specs.Run.{number_ended, unshown};
 ghost use Rattle.mcs48_c.specs.Bytes.{holding};
 ghost use Rattle.mcs48_c.specs.Calls.{after_run, after_step, line_from, listed_from, ram_from, read_from, run_from, shown_from, spent, step_from, totalled, totals_after};
 ghost use Rattle.mcs48_c.specs.Naming.{named_as, set_of};
@@ -14,6 +13,7 @@ use chip::Report;
 use isa::{Refusal, Set};
 use listing::Listed;
 use machine::State;
+use machine::rom::Lent;
 
 mod bytes; // the machine state as 24 bytes
 pub mod packing; // answers packed into one number
@@ -26,59 +26,37 @@ pub fn mcs48_power_up(state: &mut [u8])
 }
 
 // The set that a caller in C names, if there is such a set.
-#[derive(Clone, Copy)]
-pub enum Named {
-    Known(Set),
-    Unknown,
-}
-
-pub fn set_named(name: u32) -> Named
+#[tactic(auto, unfolding(crate::specs::Naming::set_of, isa::specs::Choice::pick))]
+pub fn set_named(name: u32) -> Option<Set>
     ensures { named_as result ≡ set_of name }
 {
-    if name == 0 {
-        return Named::Known(Set::Intel);
+    match name {
+        0 => Some(Set::Intel),
+        1 => Some(Set::Nec),
+        _ => None,
     }
-    if name == 1 {
-        return Named::Known(Set::Nec);
-    }
-    Named::Unknown
 }
 
-// The instruction whose first byte, at `pc`, is `code`.
-fn read_at(set: Set, program: &[u8], pc: u16, code: u8) -> u64
-    requires { code ≡ byte_at program.now pc }
-    ensures { result ≡ packed_read program.now pc (decoded_at (under set program.now) pc code) }
-{
-    let e = isa::table::entry_of(set, code);
-    let bytes = e.bytes;
-    if bytes == 0 {
-        return packing::pack_refusal(Refusal::UndefinedCode);
-    }
-    if bytes == 1 {
-        return packing::pack(0, 1, code, 0, 0);
-    }
-    let next = isa::next_pc(pc) as usize;
-    if program.len() <= next {
-        return packing::pack_refusal(Refusal::PastEnd);
-    }
-    packing::pack(0, 2, code, program[next], 0)
-}
-
-// The instruction at an address: its length, and the bytes that the writer gives for it, which are those that stand there (`read-write`). A
-// call of the reader and the writer would say the same, but give the decoder a second caller (docs/PERFORMANCE.md).
+// The instruction at an address: its length, and the bytes that the writer gives for it, which are those that stand there (`read-write`).
 pub fn mcs48_read(set: u32, program: &[u8], address: usize) -> u64
     ensures { result ≡ packed_read program.now address (read_from set program.now address) }
 {
-    let Named::Known(named) = set_named(set) else {
+    let Some(named) = set_named(set) else {
         return packing::pack_refusal(Refusal::SetUnknown);
     };
-    if isa::PROGRAM_LIMIT < program.len() {
-        return packing::pack_refusal(Refusal::ProgramLength);
+    match isa::read(named, program, address) {
+        Ok(read) => {
+            let n = read.bytes;
+            let code = program[address];
+            let second = if n == 2 {
+                program[isa::next_pc(address as u16) as usize]
+            } else {
+                0
+            };
+            packing::pack(0, n, code, second, 0)
+        }
+        Err(refusal) => packing::pack_refusal(refusal),
     }
-    if program.len() <= address {
-        return packing::pack_refusal(Refusal::PastEnd);
-    }
-    read_at(named, program, address as u16, program[address])
 }
 
 // One line of a listing, into a buffer.
@@ -86,18 +64,19 @@ pub fn mcs48_list_line(set: u32, program: &[u8], address: usize, line: &mut [u8]
     ensures answer { result ≡ packed_line (listed_from set program.now address (length line.old)) }
     ensures left { line.new ≡ line_from set program.now address line.old }
 {
-    let Named::Known(named) = set_named(set) else {
+    let Some(named) = set_named(set) else {
         return packing::pack_refusal(Refusal::SetUnknown);
     };
     match listing::line(named, program, address, line) {
-        Listed::Printed(n, size) => packing::pack(0, (n % 256) as u8, 0, size, 0),
-        Listed::Unlisted(r) => packing::pack_refusal(r),
+        Ok(Listed { length: n, size }) => packing::pack(0, (n % 256) as u8, 0, size, 0),
+        Err(refusal) => packing::pack_refusal(refusal),
     }
 }
 
 // What is left of a run's answer once its state is in the lent bytes; `shown` is what its first step showed, if that was asked for.
 #[derive(Clone, Copy)]
 pub struct Spent {
+    // An Option here takes 131.7 instructions a step of a run, above the bound of 126.
     pub number: u8,
     pub used: usize,
     pub cycles: u64,
@@ -119,7 +98,7 @@ fn run_lent(
     ensures memory { ram.new ≡ (run_from set program.now outside.now ram.old state.old samples.now).ram }
     ensures left { state.new ≡ after_run state.old (run_from set program.now outside.now ram.old state.old samples.now).ran }
 {
-    let Named::Known(named) = set_named(set) else {
+    let Some(named) = set_named(set) else {
         return Spent {
             number: isa::number(Refusal::SetUnknown),
             used: 0,
@@ -128,29 +107,41 @@ fn run_lent(
         };
     };
     let start = bytes::state_of(&state[..]);
-    let p = runs::play(named, program, outside, ram, start, samples, asked);
+    let lent = Lent {
+        set: named,
+        program,
+        outside,
+    };
+    let p = runs::play(lent, ram, start, samples, asked);
     let r = p.ran;
+    // (Read below in place of here, it takes 127.8 instructions a step of a run: docs/PERFORMANCE.md.)
     let shown = p.shown;
     let used = r.used != 0;
     if used {
         bytes::hold(state, r.state);
     }
     Spent {
-        number: r.number,
+        number: number_ended(r.ended),
         used: r.used,
         cycles: r.cycles,
         shown,
     }
 }
 
+// The number that C gets: 0 if no step was refused.
+fn number_ended(ended: Option<Refusal>) -> u8
+    ensures { result ≡ number_ended ended }
+{
+    ended.map_or(0, isa::number)
+}
+
+#[tactic(auto, unfolding(crate::specs::Calls::totalled, isa::specs::Choice::pick))]
 fn total(totals: &mut [u64], used: usize, cycles: u64)
     ensures { totals.new ≡ totalled totals.old used cycles }
 {
-    if totals.len() < 2 {
-        return;
+    if let Some(sums) = totals.first_chunk_mut::<2>() {
+        *sums = [used as u64, cycles];
     }
-    totals[0] = used as u64;
-    totals[1] = cycles;
 }
 
 // A run over samples.
@@ -189,9 +180,10 @@ pub fn mcs48_step(
 {
     let samples = [first, second];
     let r = run_lent(set, program, outside, ram, state, &samples, true);
+    let number = r.number;
     let shown = r.shown;
     let event = shown.event;
     let cycles = (r.cycles % 256) as u8;
     let used = (r.used % 256) as u8;
-    packing::pack_step(r.number, cycles, used, shown.outside, event)
+    packing::pack_step(number, cycles, used, shown.outside, event)
 }

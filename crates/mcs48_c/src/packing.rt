@@ -1,22 +1,19 @@
 // Answers packed into one 64-bit number.
-ghost use Rattle.std.specs.Prelude.{◌≡◌, ◌^◌, ◌<◌};
+ghost use Rattle.std.specs.Prelude.{◌≡◌, ◌^◌, ◌<◌, [], ◌∷◌};
 ghost use Rattle.isa.specs.Numbers.{number_of};
-ghost use Rattle.effects.specs.Events.{move_number};
-ghost use Rattle.mcs48_c.specs.Packed.{packed, packed_event, packed_refusal, packed_used};
+ghost use Rattle.effects.specs.Events.{event_as, move_number};
+ghost use Rattle.mcs48_c.specs.Packed.{packed, packed_refusal, packed_used};
 
 use effects::Event;
 use isa::{DigitMove, Refusal};
 
 // Bytes 0 to 4 of a number.
+#[tactic(auto, unfolding(crate::specs::Packed::packed))]
 pub fn pack(b0: u8, b1: u8, b2: u8, b3: u8, b4: u8) -> u64
     ensures is { result ≡ packed b0 b1 b2 b3 b4 }
     ensures small { result < 2 ^ 40 }
 {
-    (b0 as u64)
-        + (b1 as u64) * 0x100
-        + (b2 as u64) * 0x1_0000
-        + (b3 as u64) * 0x100_0000
-        + (b4 as u64) * 0x1_0000_0000
+    u64::from_le_bytes([b0, b1, b2, b3, b4, 0, 0, 0])
 }
 
 pub fn pack_refusal(r: Refusal) -> u64
@@ -36,24 +33,23 @@ fn move_number(op: DigitMove) -> u8
     }
 }
 
-// Bytes 0 to 4 of a step's answer.
-fn pack_event(number: u8, cycles: u8, event: Event) -> u64
-    ensures is { result ≡ packed_event number cycles event }
-    ensures small { result < 2 ^ 40 }
+// An event's number, its address or port, and its data or digit.
+fn event_bytes(event: Event) -> [u8; 3]
+    ensures { result ≡ (event_as event).number ∷ (event_as event).place ∷ (event_as event).value ∷ [] }
 {
     match event {
-        Event::Quiet => pack(number, cycles, 0, 0, 0),
-        Event::ExternalRead(address) => pack(number, cycles, 1, address, 0),
-        Event::ExternalWrite(address, d) => pack(number, cycles, 2, address, d),
-        Event::ExpanderMove(op, port, digit) => pack(number, cycles, move_number(op), port, digit),
+        Event::Quiet => [0, 0, 0],
+        Event::ExternalRead(address) => [1, address, 0],
+        Event::ExternalWrite(address, d) => [2, address, d],
+        Event::ExpanderMove(op, port, digit) => [move_number(op), port, digit],
     }
 }
 
 // A step's answer, with how many bytes came from outside in byte 5 and the samples used in byte 6.
+#[tactic(auto, unfolding(crate::specs::Packed::packed))]
 pub fn pack_step(number: u8, cycles: u8, used: u8, outside: u8, event: Event) -> u64
     ensures { result ≡ packed_used number cycles used outside event }
 {
-    pack_event(number, cycles, event)
-        + outside as u64 * 0x100_0000_0000
-        + used as u64 * 0x1_0000_0000_0000
+    let [kind, place, value] = event_bytes(event);
+    u64::from_le_bytes([number, cycles, kind, place, value, outside, used, 0])
 }

@@ -17,15 +17,12 @@ use Rattle.isa.specs.declared.Instruction.{Instruction}
 use Rattle.isa.specs.declared.Instruction.TheVariants.{Jmpp, Movp, Movp3}
 use Rattle.isa.specs.declared.Set.{Set}
 use Rattle.isa.specs.declared.Set.TheVariants.{Intel, Nec}
-use Rattle.isa.specs.declared.table.Entry.{Entry}
 use Rattle.isa.proofs.Everywhere.{everywhere}
 use Rattle.isa.proofs.Finding.{Found, alone, paired, found, refused-some}
 use Rattle.machine.specs.Pins.{ea_pin, is_high}
-use Rattle.machine.specs.Rom.{Roms, fetched, seen_by}
+use Rattle.machine.specs.Rom.{Roms, seen_by}
 use Rattle.machine.specs.State.{running_at}
 use Rattle.machine.specs.declared.State.{State}
-use Rattle.machine.specs.declared.rom.Byte.{Byte}
-use Rattle.machine.proofs.Seeing.{found-byte}
 use Rattle.effects.specs.Effect.{Effect}
 use Rattle.effects.specs.Memory.{register_at}
 use Rattle.effects.specs.Moves.{quiet, lacking}
@@ -110,14 +107,11 @@ module _ (ram : List ℕ) (s : State) (d next base first second : ℕ) (bytes : 
       go false h = unfold pick in refl
 
 -- ---- the instruction at PC
-module _ (roms : Roms) (ram : List ℕ) (s : State) (first : ℕ) (b : Byte) (e : Entry) (event : Event) (n : ℕ)
-    (is : b ≡ fetched roms.inside roms.outside (is_high ea_pin first) s.pc) (entry : e ≡ entry_of roms.set b.value) where
-  value : b.value ≡ byte_at (seen_by roms first).bytes s.pc
-  value = found-byte roms.inside roms.outside (is_high ea_pin first) s.pc b is
-
+module _ (roms : Roms) (ram : List ℕ) (s : State) (first : ℕ) (b bytes : ℕ) (event : Event) (n : ℕ)
+    (value : b ≡ byte_at (seen_by roms first).bytes s.pc) (entry : bytes ≡ (entry_of roms.set b).bytes) where
   pub shows :
-      ((set : Set) (d next base first second : ℕ) (bytes : List ℕ) → event ≡ (executed (instruction_of set b.value d) bytes ram (running_at s next) base first second).event)
-      → n ≡ outside_among roms.inside (is_high ea_pin first) (s.pc ∷ pick (eqb e.bytes 2) (next_pc s.pc ∷ []) (table_bytes b.value s.pc s.a))
+      ((set : Set) (d next base first second : ℕ) (bytes : List ℕ) → event ≡ (executed (instruction_of set b d) bytes ram (running_at s next) base first second).event)
+      → n ≡ outside_among roms.inside (is_high ea_pin first) (s.pc ∷ pick (eqb bytes 2) (next_pc s.pc ∷ []) (table_bytes b s.pc s.a))
       → (second : ℕ) → Shows roms ram s first second (record { event = event; outside = n })
   shows f g second =
       record {

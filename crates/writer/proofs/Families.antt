@@ -7,6 +7,7 @@ use mathlib.Core.List.{[], ◌∷◌}
 use Prim.Native.Nat.{ℕ, suc, zero-le, ◌+◌, ◌-◌, ◌*◌, ◌/◌, ◌%◌, ◌≤◌, ◌<◌}
 use native.Mathlib.Omega.{arith}
 use borrow.Author.Tests.{leb-false, le-leb, lt-leb}
+use Rattle.std.specs.Prelude.{Result, Ok, Err}
 use Rattle.isa.specs.Choice.{pick, within, listed}
 use Rattle.isa.specs.Numbers.{given}
 use Rattle.isa.specs.Sheet.{kind_of, entry_of, instruction_of}
@@ -17,19 +18,21 @@ use Rattle.isa.specs.declared.Source.{Source}
 use Rattle.isa.specs.declared.Source.TheVariants.{FromRegister, FromIndirect, Immediate}
 use Rattle.isa.specs.declared.Latch.{Latch}
 use Rattle.isa.specs.declared.Latch.TheVariants.{Bus, Port}
+use Rattle.isa.specs.declared.Flag.{Flag}
+use Rattle.isa.specs.declared.Flag.TheVariants.{FlagC, FlagF0, FlagF1}
 use Rattle.isa.specs.declared.Join.{Join}
 use Rattle.isa.specs.declared.Instruction.{Instruction}
 use Rattle.isa.specs.declared.Instruction.TheVariants.{Logic, MovData}
+use Rattle.isa.specs.declared.Refusal.{Refusal}
 use Rattle.isa.specs.declared.Refusal.TheVariants.{OperandTooLarge}
 use Rattle.isa.specs.declared.Set.{Set}
 use Rattle.isa.specs.declared.Set.TheVariants.{Intel, Nec}
 use Rattle.isa.proofs.Entries.{within-true}
 use Rattle.isa.proofs.Everywhere.{between}
-use Rattle.writer.specs.Codes.{coded_low, coded_high, with_second, cell_code, source_code, latch_code, nec_code}
+use Rattle.writer.specs.Codes.{coded_low, coded_high, alone, with_second, cell_code, source_code, latch_code, flag_code, nec_code}
 use Rattle.isa.specs.Sets.{Without}
 use Rattle.writer.specs.Writing.{unknown, too_large, Writes, encoded_as, holds, cell_holds, source_holds, latch_holds, far_holds}
 use Rattle.writer.specs.declared.Encoded.{Encoded}
-use Rattle.writer.specs.declared.Encoded.TheVariants.{One, Two, Unwritten}
 use Rattle.isa.proofs.Sets.{shared}
 
 -- What the sheet has for the code b and the second byte d, in Intel's set and so in each.
@@ -52,32 +55,29 @@ reads_two b d i k set =
     let same : instruction_of Intel b d ≡ i = cc in
     simp (shared set b (rw size), size, same)
 
+-- Both, as rules for the arms that write a code of the sheet.
+pub ruleset read_back = (reads-one, reads_two)
+
 -- A code that holds an operand k from low to high, alone (n is 1) or before a second byte d (n is 2); or 23. The sheet has it at each
 -- value from low to high.
 module _
-    (d n : ℕ) (bytes : ℕ → Encoded)
-    (reads : (b : ℕ) (i : Instruction) → known b d ≡ sized i n → (set : Set) → Writes set i (encoded_as (bytes b))) where
+    (d n : ℕ) (behind : Result ℕ Refusal → Result Encoded Refusal) (passed : behind (Err OperandTooLarge) ≡ Err OperandTooLarge)
+    (reads : (b : ℕ) (i : Instruction) → known b d ≡ sized i n → (set : Set) → Writes set i (encoded_as (behind (Ok b)))) where
   operand-writes :
       (code : ℕ → ℕ) (low high : ℕ) (make : ℕ → Instruction) → ((k : ℕ) → within low high k ≡ false → holds (make k) ≡ false)
       → listed (λ k. known (code k) d) (suc high - low) low ≡ listed (λ k. sized (make k) n) (suc high - low) low
-      → (k : ℕ) (set : Set) → Writes set (make k) (encoded_as (pick (within low high k) (bytes (code k)) (Unwritten OperandTooLarge)))
+      → (k : ℕ) (set : Set) → Writes set (make k) (encoded_as (behind (pick (within low high k) (Ok (code k)) (Err OperandTooLarge))))
   unfolding pick
   operand-writes code low high make outside e k = go (within low high k) refl
     where
       go :
           (p : Bool) → within low high k ≡ p → (set : Set)
-          → Writes set (make k) (encoded_as (pick p (bytes (code k)) (Unwritten OperandTooLarge)))
+          → Writes set (make k) (encoded_as (behind (pick p (Ok (code k)) (Err OperandTooLarge))))
       go true h =
           let l : (low ≤ k) × (k ≤ high) = within-true low high k h in
           reads (code k) (make k)
           (between (λ k. known (code k) d) (λ k. sized (make k) n) (suc high - low) low e k l.0 (omega arith))
-      go false h = λ set. too_large (outside k h)
-
--- A second byte goes behind the code, not behind the refusal.
-second-choice : (p : Bool) (b d : ℕ) → with_second (pick p (One b) (Unwritten OperandTooLarge)) d ≡ pick p (Two b d) (Unwritten OperandTooLarge)
-unfolding pick
-second-choice true b d = refl
-second-choice false b d = refl
+      go false h = λ set. rw passed (too_large (outside k h))
 
 -- The laws of the families. In each the last premises are what an arm of the writer knows: which instruction it writes, and what the
 -- functions that it calls gave.
@@ -87,34 +87,35 @@ module _ (base low high : ℕ) where
   pub low-writes :
       (make : ℕ → Instruction) → ((k : ℕ) → within low high k ≡ false → holds (make k) ≡ false)
       → listed (λ k. known (base + k) 0) (suc high - low) low ≡ listed (λ k. sized (make k) 1) (suc high - low) low
-      → {i : Instruction} {w : Encoded} {k : ℕ} → i ≡ make k → w ≡ coded_low base low high k → (set : Set) → Writes set i (encoded_as w)
-  low-writes make outside e {k = k} p q =
-      rw (p, q) (operand-writes 0 1 (λ b. One b) reads-one (λ k. base + k) low high make outside e k)
+      → {i : Instruction} {v : Result ℕ Refusal} {w : Result Encoded Refusal} {k : ℕ} → i ≡ make k → v ≡ coded_low base low high k
+      → w ≡ alone v → (set : Set) → Writes set i (encoded_as w)
+  low-writes make outside e {k = k} p q r =
+      rw (p, r, q) (operand-writes 0 1 alone refl reads-one (λ k. base + k) low high make outside e k)
 
   pub low-writes-two :
       (make : ℕ → ℕ → Instruction) → ((k d : ℕ) → within low high k ≡ false → holds (make k d) ≡ false)
       → ((d : ℕ) → listed (λ k. known (base + k) d) (suc high - low) low ≡ listed (λ k. sized (make k d) 2) (suc high - low) low)
-      → {i : Instruction} {v w : Encoded} {k d : ℕ} → i ≡ make k d → v ≡ coded_low base low high k → w ≡ with_second v d
-      → (set : Set) → Writes set i (encoded_as w)
+      → {i : Instruction} {v : Result ℕ Refusal} {w : Result Encoded Refusal} {k d : ℕ} → i ≡ make k d → v ≡ coded_low base low high k
+      → w ≡ with_second v d → (set : Set) → Writes set i (encoded_as w)
   low-writes-two make outside e {k = k} {d} p q r =
-      rw (p, r, q, second-choice (within low high k) (base + k) d)
-      (operand-writes d 2 (λ b. Two b d) (λ b. reads_two b d) (λ k. base + k) low high (λ k. make k d) (λ k. outside k d) (e d) k)
+      rw (p, r, q)
+      (operand-writes d 2 (λ v. with_second v d) refl (λ b. reads_two b d) (λ k. base + k) low high (λ k. make k d) (λ k. outside k d) (e d) k)
 
 -- An operand in bits 5-7, with a second byte.
 pub high-writes :
     (base : ℕ) (make : ℕ → ℕ → Instruction) → ((k d : ℕ) → within 0 7 k ≡ false → holds (make k d) ≡ false)
     → ((d : ℕ) → listed (λ k. known (base + 32 * k) d) 8 0 ≡ listed (λ k. sized (make k d) 2) 8 0)
-    → {i : Instruction} {v w : Encoded} {k d : ℕ} → i ≡ make k d → v ≡ coded_high base k → w ≡ with_second v d
+    → {i : Instruction} {v : Result ℕ Refusal} {w : Result Encoded Refusal} {k d : ℕ} → i ≡ make k d → v ≡ coded_high base k → w ≡ with_second v d
     → (set : Set) → Writes set i (encoded_as w)
 high-writes base make outside e {k = k} {d} p q r =
-    rw (p, r, q, second-choice (within 0 7 k) (base + 32 * k) d)
-    (operand-writes d 2 (λ b. Two b d) (λ b. reads_two b d) (λ k. base + 32 * k) 0 7 (λ k. make k d) (λ k. outside k d) (e d) k)
+    rw (p, r, q)
+    (operand-writes d 2 (λ v. with_second v d) refl (λ b. reads_two b d) (λ k. base + 32 * k) 0 7 (λ k. make k d) (λ k. outside k d) (e d) k)
 
 -- JMP and CALL: bits 8-10 of the address stand in bits 5-7 of the code.
 pub far-writes :
     (base : ℕ) (make : ℕ → Instruction) → ((a : ℕ) → holds (make a) ≡ far_holds a)
     → ((d : ℕ) → listed (λ k. known (base + 32 * k) d) 8 0 ≡ listed (λ k. sized (make (k * 256 + d)) 2) 8 0)
-    → {i : Instruction} {v w : Encoded} {a : ℕ} → i ≡ make a → v ≡ coded_high base (a / 256) → w ≡ with_second v (a % 256)
+    → {i : Instruction} {v : Result ℕ Refusal} {w : Result Encoded Refusal} {a : ℕ} → i ≡ make a → v ≡ coded_high base (a / 256) → w ≡ with_second v (a % 256)
     → (set : Set) → Writes set i (encoded_as w)
 far-writes base make far e {a = a} p q r =
     let whole : a / 256 * 256 + a % 256 ≡ a = omega arith in
@@ -130,15 +131,16 @@ pub cell-writes :
     (base : ℕ) (make : Cell → Instruction) → ((c : Cell) → holds (make c) ≡ cell_holds c)
     → listed (λ k. known (base + 8 + k) 0) 8 0 ≡ listed (λ k. sized (make (Register k)) 1) 8 0
     → listed (λ k. known (base + k) 0) 2 0 ≡ listed (λ k. sized (make (Indirect k)) 1) 2 0
-    → {i : Instruction} {w : Encoded} {c : Cell} → i ≡ make c → w ≡ cell_code base c → (set : Set) → Writes set i (encoded_as w)
-cell-writes base make held er ei {c = Register r} p q =
-    low-writes (base + 8) 0 7 (λ k. make (Register k)) (λ k h. held (Register k) ∙ h) er p q
-cell-writes base make held er ei {c = Indirect r} p q =
-    low-writes base 0 1 (λ k. make (Indirect k)) (λ k h. held (Indirect k) ∙ h) ei p q
+    → {i : Instruction} {v : Result ℕ Refusal} {w : Result Encoded Refusal} {c : Cell} → i ≡ make c → v ≡ cell_code base c → w ≡ alone v
+    → (set : Set) → Writes set i (encoded_as w)
+cell-writes base make held er ei {c = Register k} p q r =
+    low-writes (base + 8) 0 7 (λ k. make (Register k)) (λ k h. held (Register k) ∙ h) er p q r
+cell-writes base make held er ei {c = Indirect k} p q r =
+    low-writes base 0 1 (λ k. make (Indirect k)) (λ k h. held (Indirect k) ∙ h) ei p q r
 
 -- MOV Rr,#data and MOV @Rr,#data.
 pub mov-data-writes :
-    {i : Instruction} {v w : Encoded} {c : Cell} {d : ℕ} → i ≡ MovData c d → v ≡ cell_code 0xB0 c → w ≡ with_second v d
+    {i : Instruction} {v : Result ℕ Refusal} {w : Result Encoded Refusal} {c : Cell} {d : ℕ} → i ≡ MovData c d → v ≡ cell_code 0xB0 c → w ≡ with_second v d
     → (set : Set) → Writes set i (encoded_as w)
 unfolding entry_of kind_of pick
 mov-data-writes {c = Register r} = low-writes-two 0xB8 0 7 (λ k d. MovData (Register k) d) (λ k d h. rw h) (λ d. refl)
@@ -150,27 +152,29 @@ pub source-writes :
     → listed (λ k. known (base + 8 + k) 0) 8 0 ≡ listed (λ k. sized (make (FromRegister k)) 1) 8 0
     → listed (λ k. known (base + k) 0) 2 0 ≡ listed (λ k. sized (make (FromIndirect k)) 1) 2 0
     → ((d : ℕ) → known immediate d ≡ sized (make (Immediate d)) 2)
-    → {i : Instruction} {w : Encoded} {s : Source} → i ≡ make s → w ≡ source_code base immediate s → (set : Set) → Writes set i (encoded_as w)
+    → {i : Instruction} {w : Result Encoded Refusal} {s : Source} → i ≡ make s → w ≡ source_code base immediate s
+    → (set : Set) → Writes set i (encoded_as w)
 source-writes base immediate make held er ei ed {s = FromRegister r} p q =
-    low-writes (base + 8) 0 7 (λ k. make (FromRegister k)) (λ k h. held (FromRegister k) ∙ h) er p q
+    low-writes (base + 8) 0 7 (λ k. make (FromRegister k)) (λ k h. held (FromRegister k) ∙ h) er p refl q
 source-writes base immediate make held er ei ed {s = FromIndirect r} p q =
-    low-writes base 0 1 (λ k. make (FromIndirect k)) (λ k h. held (FromIndirect k) ∙ h) ei p q
+    low-writes base 0 1 (λ k. make (FromIndirect k)) (λ k h. held (FromIndirect k) ∙ h) ei p refl q
 source-writes base immediate make held er ei ed {s = Immediate d} p q = rw (p, q) (reads_two immediate d (make (Immediate d)) (ed d))
 
 -- BUS and Pp.
 pub latch-writes :
     (bus base : ℕ) (make : Latch → Instruction) → ((l : Latch) → holds (make l) ≡ latch_holds l)
     → known bus 0 ≡ sized (make Bus) 1 → listed (λ k. known (base + k) 0) 2 1 ≡ listed (λ k. sized (make (Port k)) 1) 2 1
-    → {i : Instruction} {w : Encoded} {l : Latch} → i ≡ make l → w ≡ latch_code bus base l → (set : Set) → Writes set i (encoded_as w)
-latch-writes bus base make held eb ep {l = Bus} p q = rw (p, q) (reads-one bus (make Bus) eb)
-latch-writes bus base make held eb ep {l = Port n} p q =
-    low-writes base 1 2 (λ k. make (Port k)) (λ k h. held (Port k) ∙ h) ep p q
+    → {i : Instruction} {v : Result ℕ Refusal} {w : Result Encoded Refusal} {l : Latch} → i ≡ make l → v ≡ latch_code bus base l → w ≡ alone v
+    → (set : Set) → Writes set i (encoded_as w)
+latch-writes bus base make held eb ep {l = Bus} p q r = rw (p, r, q) (reads-one bus (make Bus) eb)
+latch-writes bus base make held eb ep {l = Port n} p q r =
+    low-writes base 1 2 (λ k. make (Port k)) (λ k h. held (Port k) ∙ h) ep p q r
 
 -- ANL and ORL on BUS and Pp, with the data behind the code.
 pub logic-writes :
     (base : ℕ) (op : Join) → ((d : ℕ) → known base d ≡ sized (Logic op Bus d) 2)
     → ((d : ℕ) → listed (λ k. known (base + k) d) 2 1 ≡ listed (λ k. sized (Logic op (Port k) d) 2) 2 1)
-    → (l : Latch) {o : Join} {v : Encoded} → o ≡ op → v ≡ latch_code base base l → (set : Set) (d : ℕ)
+    → (l : Latch) {o : Join} {v : Result ℕ Refusal} → o ≡ op → v ≡ latch_code base base l → (set : Set) (d : ℕ)
     → Writes set (Logic o l d) (encoded_as (with_second v d))
 logic-writes base op eb ep Bus p q set d = rw (p, q) (reads_two base d (Logic op Bus d) (eb d) set)
 logic-writes base op eb ep (Port n) p q set d =
@@ -178,14 +182,24 @@ logic-writes base op eb ep (Port n) p q set d =
 
 -- A conditional jump, ANL and ORL on a latch: the function called gave the code, for any second byte.
 pub second-writes :
-    (make : ℕ → Instruction) (v : Encoded) {i : Instruction} {w : Encoded} {d : ℕ} → i ≡ make d
+    (make : ℕ → Instruction) (v : Result ℕ Refusal) {i : Instruction} {w : Result Encoded Refusal} {d : ℕ} → i ≡ make d
     → ((set : Set) (d : ℕ) → Writes set (make d) (encoded_as (with_second v d))) → w ≡ with_second v d
     → (set : Set) → Writes set i (encoded_as w)
 second-writes make v {d = d} p h q set = rw (p, q) (h set d)
 
+-- CPL and CLR of a flag.
+pub flag-writes :
+    (c f0 f1 : ℕ) (make : Flag → Instruction) → known c 0 ≡ sized (make FlagC) 1 → known f0 0 ≡ sized (make FlagF0) 1
+    → known f1 0 ≡ sized (make FlagF1) 1 → {i : Instruction} {b : ℕ} {f : Flag} → i ≡ make f → b ≡ flag_code c f0 f1 f
+    → (set : Set) → Writes set i (given (b ∷ []))
+flag-writes c f0 f1 make ec e0 e1 {f = FlagC} p q = rw (p, q) (reads-one c (make FlagC) ec)
+flag-writes c f0 f1 make ec e0 e1 {f = FlagF0} p q = rw (p, q) (reads-one f0 (make FlagF0) e0)
+flag-writes c f0 f1 make ec e0 e1 {f = FlagF1} p q = rw (p, q) (reads-one f1 (make FlagF1) e1)
+
 -- HALT and STOP.
 pub nec-writes :
     (code : ℕ) (i : Instruction) → Without Intel i → Writes Nec i (given (code ∷ []))
-    → {j : Instruction} {w : Encoded} (set : Set) → j ≡ i → w ≡ nec_code set code → Writes set j (encoded_as w)
-nec-writes code i none there Intel p q = rw (p, q) (unknown none)
-nec-writes code i none there Nec p q = rw (p, q) there
+    → {j : Instruction} {v : Result ℕ Refusal} {w : Result Encoded Refusal} (set : Set) → j ≡ i → v ≡ nec_code set code → w ≡ alone v
+    → Writes set j (encoded_as w)
+nec-writes code i none there Intel p q r = rw (p, r, q) (unknown none)
+nec-writes code i none there Nec p q r = rw (p, r, q) there

@@ -6,16 +6,18 @@ use mathlib.Core.Bool.{true, false, true≢false}
 use mathlib.Core.List.{List}
 use Prim.Native.Nat.{ℕ}
 use lib.ListN.{length}
+use Rattle.std.specs.Prelude.{Result, Ok, Err}
 use Rattle.isa.specs.Numbers.{Answer, given, refused}
 use Rattle.isa.proofs.Once.{one-number}
 use Rattle.isa.specs.declared.Instruction.{Instruction}
+use Rattle.isa.specs.declared.Refusal.{Refusal}
 use Rattle.isa.specs.declared.Set.{Set}
 use Rattle.isa.specs.Reading.{under, Bytes}
 use Rattle.writer.specs.Standing.{BytesIn}
 use Rattle.isa.specs.Sets.{Without, standby, halt, stop}
 use Rattle.writer.specs.Writing.{holds, Refuses, unknown, too_large, Writes, encoded_as}
 use Rattle.writer.specs.declared.Encoded.{Encoded}
-use Rattle.writer.specs.declared.Encoded.TheVariants.{One, Two, Unwritten}
+use Rattle.writer.specs.declared.Encoded.TheVariants.{One, Two}
 use Rattle.writer.proofs.RoundTrips.{written-back, read-stands}
 
 -- An instruction that the writer has bytes for, it has no reason to refuse.
@@ -57,18 +59,18 @@ pub never-else : (set : Set) (i : Instruction) (n : ℕ) → Writes set i (refus
 never-else set i n (unknown without) has held = has without
 never-else set i n (too_large out) has held = true≢false (sym held ∙ out)
 
-pub written-as-once : (r s : Encoded) → encoded_as r ≡ encoded_as s → r ≡ s
-written-as-once (One b) (One c) e = cc
-written-as-once (One b) (Two c d) e = cc
-written-as-once (One b) (Unwritten r) e = cc
-written-as-once (Two b d) (One c) e = cc
-written-as-once (Two b d) (Two c f) e = cc
-written-as-once (Two b d) (Unwritten r) e = cc
-written-as-once (Unwritten r) (One b) e = cc
-written-as-once (Unwritten r) (Two b d) e = cc
-written-as-once (Unwritten r) (Unwritten s) e = ap Unwritten (one-number r s (cc))
+pub written-as-once : (r s : Result Encoded Refusal) → encoded_as r ≡ encoded_as s → r ≡ s
+written-as-once (Ok (One b)) (Ok (One c)) e = cc
+written-as-once (Ok (One b)) (Ok (Two c d)) e = cc
+written-as-once (Ok (One b)) (Err r) e = cc
+written-as-once (Ok (Two b d)) (Ok (One c)) e = cc
+written-as-once (Ok (Two b d)) (Ok (Two c f)) e = cc
+written-as-once (Ok (Two b d)) (Err r) e = cc
+written-as-once (Err r) (Ok (One b)) e = cc
+written-as-once (Err r) (Ok (Two b d)) e = cc
+written-as-once (Err r) (Err s) e = ap Err (one-number r s (cc))
 
 pub write-once :
-    (set : Set) (i : Instruction) (r s : Encoded) → BytesIn (encoded_as r) → BytesIn (encoded_as s) → Writes set i (encoded_as r)
-    → Writes set i (encoded_as s) → r ≡ s
+    (set : Set) (i : Instruction) (r s : Result Encoded Refusal) → BytesIn (encoded_as r) → BytesIn (encoded_as s)
+    → Writes set i (encoded_as r) → Writes set i (encoded_as s) → r ≡ s
 write-once set i r s br bs p q = written-as-once r s (answer-once set i (encoded_as r) (encoded_as s) br bs p q)

@@ -1,7 +1,7 @@
 -- The writer's promise (document 01): "The writer gives one or two bytes, or 23 and none." And document 02, item 2: 4 "is read per set, 26
 -- undefined codes for Intel, 24 for NEC, and the writer gives it for HALT or STOP under Intel".
 -- Assumes nothing.
-use Rattle.std.specs.Prelude.{ℕ, ◌≡◌, Bool, true, false, ◌&&◌, List, [], ◌∷◌, length}
+use Rattle.std.specs.Prelude.{ℕ, ◌≡◌, Bool, true, false, ◌&&◌, List, [], ◌∷◌, length, Result, Ok, Err}
 use Rattle.isa.specs.Choice.{within}
 use Rattle.isa.specs.Numbers.{number_of, Answer, given, refused}
 use Rattle.isa.specs.Reading.{under, read_of, sized}
@@ -16,9 +16,10 @@ use Rattle.isa.specs.declared.Latch.{Latch}
 use Rattle.isa.specs.declared.Latch.TheVariants.{Bus, Port}
 use Rattle.isa.specs.declared.Instruction.{Instruction}
 use Rattle.isa.specs.declared.Instruction.TheVariants.{Alu, Accumulator, Djnz, Branch, Jmp, Jmpp, Control, MovA, Mov, MovData, MovAPsw, MovPswA, Movp, Movp3, MovxRead, MovxWrite, Xch, Xchd, Cpl, Clr, Logic, In, Outl, Expander, Dec, Inc, Call, Ret, Retr, MovAT, MovTA, Nop, Halt, Stop}
+use Rattle.isa.specs.declared.Refusal.{Refusal}
 use Rattle.isa.specs.declared.Set.{Set}
 use Rattle.writer.specs.declared.Encoded.{Encoded}
-use Rattle.writer.specs.declared.Encoded.TheVariants.{One, Two, Unwritten}
+use Rattle.writer.specs.declared.Encoded.TheVariants.{One, Two}
 
 -- What a code can hold: R0 to R7, but @R0 and @R1 only; P1 and P2, and P4 to P7 of the expander; a bit from 0 to 7; a data byte; an
 -- address of 11 bits in JMP and CALL, of 8 in a conditional jump.
@@ -105,7 +106,7 @@ Writes set i (given bytes) = read_of (under set bytes) 0 ≡ given (sized i (len
 Writes set i (refused n) = Refuses set i n
 
 -- The number and the values of each of the writer's answers.
-abbrev pub encoded_as : Encoded → Answer (List ℕ)
-encoded_as (One b) = given (b ∷ [])
-encoded_as (Two b d) = given (b ∷ d ∷ [])
-encoded_as (Unwritten r) = refused (number_of r)
+abbrev pub encoded_as : Result Encoded Refusal → Answer (List ℕ)
+encoded_as (Ok (One b)) = given (b ∷ [])
+encoded_as (Ok (Two b d)) = given (b ∷ d ∷ [])
+encoded_as (Err r) = refused (number_of r)

@@ -3,8 +3,8 @@
 ghost use Rattle.std.specs.Prelude.{◌≡◌, [], ◌∷◌, ℕ, ◌+◌, ◌≤◌, ◌<◌};
 ghost use Rattle.isa.specs.Numbers.{given};
 ghost use Rattle.isa.specs.declared.Set.{Set};
-ghost use Rattle.isa.specs.declared.Instruction.TheVariants.{Alu, Accumulator, Branch, Control, Cpl, Clr, Logic, Expander};
-ghost use Rattle.writer.specs.Codes.{coded_low, coded_high, with_second, cell_code, source_code, latch_code, nec_code};
+ghost use Rattle.isa.specs.declared.Instruction.TheVariants.{Alu, Accumulator, Branch, Control, Logic, Expander};
+ghost use Rattle.writer.specs.Codes.{held, coded_low, coded_high, alone, with_second, cell_code, source_code, latch_code, flag_code, nec_code};
 ghost use Rattle.writer.specs.Writing.{Writes, encoded_as};
 
 use isa::{
@@ -12,54 +12,64 @@ use isa::{
     Switch, Unary,
 };
 
-// What the writer answers.
+// The bytes of an instruction.
 #[derive(Clone, Copy)]
 pub enum Encoded {
     One(u8),
     Two(u8, u8),
-    Unwritten(Refusal),
 }
 
-// The code `base` with the number k in its low bits, if k is from `low` to `high`.
-fn coded_low(base: u8, low: u8, high: u8, k: u8) -> Encoded
-    requires { base + high < 256 }
-    ensures { result ≡ coded_low base low high k }
+// The number k, if it is from `low` to `high`.
+#[tactic(auto, unfolding(isa::specs::Choice::pick))]
+fn held(low: u8, high: u8, k: u8) -> Result<u8, Refusal>
+    ensures { result ≡ held low high k }
 {
     if k < low {
-        return Encoded::Unwritten(Refusal::OperandTooLarge);
+        return Err(Refusal::OperandTooLarge);
     }
     let large = high < k;
     if large {
-        return Encoded::Unwritten(Refusal::OperandTooLarge);
+        return Err(Refusal::OperandTooLarge);
     }
-    Encoded::One(base + k)
+    Ok(k)
+}
+
+// The code `base` with the number k in its low bits, if k is from `low` to `high`.
+#[tactic(auto, unfolding(isa::specs::Choice::pick))]
+fn coded_low(base: u8, low: u8, high: u8, k: u8) -> Result<u8, Refusal>
+    requires { base + high < 256 }
+    ensures { result ≡ coded_low base low high k }
+{
+    let k = held(low, high, k)?;
+    Ok(base + k)
 }
 
 // The code `base` with the number k in bits 5-7, if k is at most 7.
-fn coded_high(base: u8, k: u8) -> Encoded
+#[tactic(auto, unfolding(isa::specs::Choice::pick))]
+fn coded_high(base: u8, k: u8) -> Result<u8, Refusal>
     requires { base < 32 }
     ensures { result ≡ coded_high base k }
 {
-    let large = 7 < k;
-    if large {
-        return Encoded::Unwritten(Refusal::OperandTooLarge);
-    }
-    Encoded::One(base + 32 * k)
+    let k = held(0, 7, k)?;
+    Ok(base + 32 * k)
+}
+
+// A code by itself.
+fn alone(code: Result<u8, Refusal>) -> Result<Encoded, Refusal>
+    ensures { result ≡ alone code }
+{
+    Ok(Encoded::One(code?))
 }
 
 // A second byte behind a code.
-fn with_second(w: Encoded, d: u8) -> Encoded
-    ensures { result ≡ with_second w d }
+fn with_second(code: Result<u8, Refusal>, d: u8) -> Result<Encoded, Refusal>
+    ensures { result ≡ with_second code d }
 {
-    match w {
-        Encoded::One(b) => Encoded::Two(b, d),
-        Encoded::Two(b, e) => Encoded::Two(b, e),
-        Encoded::Unwritten(r) => Encoded::Unwritten(r),
-    }
+    Ok(Encoded::Two(code?, d))
 }
 
 // Rr in the lower half of a row of codes, @Rr in its first two.
-fn cell_code(base: u8, c: Cell) -> Encoded
+fn cell_code(base: u8, c: Cell) -> Result<u8, Refusal>
     requires { base + 16 ≤ 256 }
     ensures { result ≡ cell_code base c }
 {
@@ -69,29 +79,41 @@ fn cell_code(base: u8, c: Cell) -> Encoded
     }
 }
 
-fn source_code(base: u8, immediate: u8, s: Source) -> Encoded
+// Rr and @Rr as in a cell's code; #data stands behind a code of its own.
+fn source_code(base: u8, immediate: u8, s: Source) -> Result<Encoded, Refusal>
     requires { base + 16 ≤ 256 }
     ensures { result ≡ source_code base immediate s }
 {
     match s {
-        Source::FromRegister(r) => coded_low(base + 8, 0, 7, r),
-        Source::FromIndirect(r) => coded_low(base, 0, 1, r),
-        Source::Immediate(d) => Encoded::Two(immediate, d),
+        Source::FromRegister(r) => alone(cell_code(base, Cell::Register(r))),
+        Source::FromIndirect(r) => alone(cell_code(base, Cell::Indirect(r))),
+        Source::Immediate(d) => Ok(Encoded::Two(immediate, d)),
     }
 }
 
-fn latch_code(bus: u8, base: u8, l: Latch) -> Encoded
+fn latch_code(bus: u8, base: u8, l: Latch) -> Result<u8, Refusal>
     requires { base + 2 < 256 }
     ensures { result ≡ latch_code bus base l }
 {
     match l {
-        Latch::Bus => Encoded::One(bus),
+        Latch::Bus => Ok(bus),
         Latch::Port(p) => coded_low(base, 1, 2, p),
     }
 }
 
+// A flag's code, of three.
+fn flag_code(c: u8, f0: u8, f1: u8, f: Flag) -> u8
+    ensures { result ≡ flag_code c f0 f1 f }
+{
+    match f {
+        Flag::FlagC => c,
+        Flag::FlagF0 => f0,
+        Flag::FlagF1 => f1,
+    }
+}
+
 // From here to nec_code: what Intel's set has, and NEC's too.
-fn operation_code(op: Operation, s: Source) -> Encoded
+fn operation_code(op: Operation, s: Source) -> Result<Encoded, Refusal>
     ensures { (set : Set) → Writes set (Alu op s) (encoded_as result) }
 {
     match op {
@@ -103,6 +125,7 @@ fn operation_code(op: Operation, s: Source) -> Encoded
     }
 }
 
+#[tactic(auto, using(crate::proofs::Families::read_back), unfolding(isa::specs::Sheet::entry_of, isa::specs::Sheet::kind_of, isa::specs::Choice::pick))]
 fn unary_code(op: Unary) -> u8
     ensures { (set : Set) → Writes set (Accumulator op) (given (result ∷ [])) }
 {
@@ -121,26 +144,28 @@ fn unary_code(op: Unary) -> u8
 }
 
 // The code of a conditional jump; its address is the second byte.
-fn condition_code(c: Condition) -> Encoded
+#[tactic(auto, using(crate::proofs::Families::read_back), unfolding(isa::specs::Sheet::entry_of, isa::specs::Sheet::kind_of, isa::specs::Choice::pick))]
+fn condition_code(c: Condition) -> Result<u8, Refusal>
     ensures { (set : Set) (d : ℕ) → Writes set (Branch c d) (encoded_as (with_second result d)) }
 {
     match c {
         Condition::Jb(b) => coded_high(0x12, b),
-        Condition::Jc => Encoded::One(0xF6),
-        Condition::Jf0 => Encoded::One(0xB6),
-        Condition::Jf1 => Encoded::One(0x76),
-        Condition::Jnc => Encoded::One(0xE6),
-        Condition::Jni => Encoded::One(0x86),
-        Condition::Jnt0 => Encoded::One(0x26),
-        Condition::Jnt1 => Encoded::One(0x46),
-        Condition::Jnz => Encoded::One(0x96),
-        Condition::Jtf => Encoded::One(0x16),
-        Condition::Jt0 => Encoded::One(0x36),
-        Condition::Jt1 => Encoded::One(0x56),
-        Condition::Jz => Encoded::One(0xC6),
+        Condition::Jc => Ok(0xF6),
+        Condition::Jf0 => Ok(0xB6),
+        Condition::Jf1 => Ok(0x76),
+        Condition::Jnc => Ok(0xE6),
+        Condition::Jni => Ok(0x86),
+        Condition::Jnt0 => Ok(0x26),
+        Condition::Jnt1 => Ok(0x46),
+        Condition::Jnz => Ok(0x96),
+        Condition::Jtf => Ok(0x16),
+        Condition::Jt0 => Ok(0x36),
+        Condition::Jt1 => Ok(0x56),
+        Condition::Jz => Ok(0xC6),
     }
 }
 
+#[tactic(auto, using(crate::proofs::Families::read_back), unfolding(isa::specs::Sheet::entry_of, isa::specs::Sheet::kind_of, isa::specs::Choice::pick))]
 fn switch_code(op: Switch) -> u8
     ensures { (set : Set) → Writes set (Control op) (given (result ∷ [])) }
 {
@@ -160,28 +185,8 @@ fn switch_code(op: Switch) -> u8
     }
 }
 
-fn cpl_code(f: Flag) -> u8
-    ensures { (set : Set) → Writes set (Cpl f) (given (result ∷ [])) }
-{
-    match f {
-        Flag::FlagC => 0xA7,
-        Flag::FlagF0 => 0x95,
-        Flag::FlagF1 => 0xB5,
-    }
-}
-
-fn clr_code(f: Flag) -> u8
-    ensures { (set : Set) → Writes set (Clr f) (given (result ∷ [])) }
-{
-    match f {
-        Flag::FlagC => 0x97,
-        Flag::FlagF0 => 0x85,
-        Flag::FlagF1 => 0xA5,
-    }
-}
-
 // The code of ANL and ORL on BUS or a port; the data is the second byte.
-fn logic_code(op: Join, l: Latch) -> Encoded
+fn logic_code(op: Join, l: Latch) -> Result<u8, Refusal>
     ensures { (set : Set) (d : ℕ) → Writes set (Logic op l d) (encoded_as (with_second result d)) }
 {
     match op {
@@ -190,8 +195,8 @@ fn logic_code(op: Join, l: Latch) -> Encoded
     }
 }
 
-fn digit_move_code(op: DigitMove, p: u8) -> Encoded
-    ensures { (set : Set) → Writes set (Expander op p) (encoded_as result) }
+fn digit_move_code(op: DigitMove, p: u8) -> Result<u8, Refusal>
+    ensures { (set : Set) → Writes set (Expander op p) (encoded_as (alone result)) }
 {
     match op {
         DigitMove::MovdRead => coded_low(0x08, 4, 7, p),
@@ -202,53 +207,54 @@ fn digit_move_code(op: DigitMove, p: u8) -> Encoded
 }
 
 // A code that NEC alone has; 4 under Intel.
-fn nec_code(set: Set, code: u8) -> Encoded
+fn nec_code(set: Set, code: u8) -> Result<u8, Refusal>
     ensures { result ≡ nec_code set code }
 {
     match set {
-        Set::Intel => Encoded::Unwritten(Refusal::UndefinedCode),
-        Set::Nec => Encoded::One(code),
+        Set::Intel => Err(Refusal::UndefinedCode),
+        Set::Nec => Ok(code),
     }
 }
 
 // The bytes of an instruction in a set.
-pub fn write(set: Set, i: Instruction) -> Encoded
+#[tactic(auto, using(crate::proofs::Families::read_back), unfolding(isa::specs::Sheet::entry_of, isa::specs::Sheet::kind_of, isa::specs::Choice::pick))]
+pub fn write(set: Set, i: Instruction) -> Result<Encoded, Refusal>
     ensures { Writes set i (encoded_as result) }
 {
     match i {
         Instruction::Alu(op, s) => operation_code(op, s),
-        Instruction::Accumulator(op) => Encoded::One(unary_code(op)),
+        Instruction::Accumulator(op) => Ok(Encoded::One(unary_code(op))),
         Instruction::Djnz(r, d) => with_second(coded_low(0xE8, 0, 7, r), d),
         Instruction::Branch(c, d) => with_second(condition_code(c), d),
         Instruction::Jmp(a) => with_second(coded_high(0x04, (a / 256) as u8), (a % 256) as u8),
-        Instruction::Jmpp => Encoded::One(0xB3),
-        Instruction::Control(op) => Encoded::One(switch_code(op)),
+        Instruction::Jmpp => Ok(Encoded::One(0xB3)),
+        Instruction::Control(op) => Ok(Encoded::One(switch_code(op))),
         Instruction::MovA(s) => source_code(0xF0, 0x23, s),
-        Instruction::Mov(c) => cell_code(0xA0, c),
+        Instruction::Mov(c) => alone(cell_code(0xA0, c)),
         Instruction::MovData(c, d) => with_second(cell_code(0xB0, c), d),
-        Instruction::MovAPsw => Encoded::One(0xC7),
-        Instruction::MovPswA => Encoded::One(0xD7),
-        Instruction::Movp => Encoded::One(0xA3),
-        Instruction::Movp3 => Encoded::One(0xE3),
-        Instruction::MovxRead(r) => coded_low(0x80, 0, 1, r),
-        Instruction::MovxWrite(r) => coded_low(0x90, 0, 1, r),
-        Instruction::Xch(c) => cell_code(0x20, c),
-        Instruction::Xchd(r) => coded_low(0x30, 0, 1, r),
-        Instruction::Cpl(f) => Encoded::One(cpl_code(f)),
-        Instruction::Clr(f) => Encoded::One(clr_code(f)),
+        Instruction::MovAPsw => Ok(Encoded::One(0xC7)),
+        Instruction::MovPswA => Ok(Encoded::One(0xD7)),
+        Instruction::Movp => Ok(Encoded::One(0xA3)),
+        Instruction::Movp3 => Ok(Encoded::One(0xE3)),
+        Instruction::MovxRead(r) => alone(coded_low(0x80, 0, 1, r)),
+        Instruction::MovxWrite(r) => alone(coded_low(0x90, 0, 1, r)),
+        Instruction::Xch(c) => alone(cell_code(0x20, c)),
+        Instruction::Xchd(r) => alone(coded_low(0x30, 0, 1, r)),
+        Instruction::Cpl(f) => Ok(Encoded::One(flag_code(0xA7, 0x95, 0xB5, f))),
+        Instruction::Clr(f) => Ok(Encoded::One(flag_code(0x97, 0x85, 0xA5, f))),
         Instruction::Logic(op, l, d) => with_second(logic_code(op, l), d),
-        Instruction::In(l) => latch_code(0x08, 0x08, l),
-        Instruction::Outl(l) => latch_code(0x02, 0x38, l),
-        Instruction::Expander(op, p) => digit_move_code(op, p),
-        Instruction::Dec(r) => coded_low(0xC8, 0, 7, r),
-        Instruction::Inc(c) => cell_code(0x10, c),
+        Instruction::In(l) => alone(latch_code(0x08, 0x08, l)),
+        Instruction::Outl(l) => alone(latch_code(0x02, 0x38, l)),
+        Instruction::Expander(op, p) => alone(digit_move_code(op, p)),
+        Instruction::Dec(r) => alone(coded_low(0xC8, 0, 7, r)),
+        Instruction::Inc(c) => alone(cell_code(0x10, c)),
         Instruction::Call(a) => with_second(coded_high(0x14, (a / 256) as u8), (a % 256) as u8),
-        Instruction::Ret => Encoded::One(0x83),
-        Instruction::Retr => Encoded::One(0x93),
-        Instruction::MovAT => Encoded::One(0x42),
-        Instruction::MovTA => Encoded::One(0x62),
-        Instruction::Nop => Encoded::One(0x00),
-        Instruction::Halt => nec_code(set, 0x01),
-        Instruction::Stop => nec_code(set, 0x82),
+        Instruction::Ret => Ok(Encoded::One(0x83)),
+        Instruction::Retr => Ok(Encoded::One(0x93)),
+        Instruction::MovAT => Ok(Encoded::One(0x42)),
+        Instruction::MovTA => Ok(Encoded::One(0x62)),
+        Instruction::Nop => Ok(Encoded::One(0x00)),
+        Instruction::Halt => alone(nec_code(set, 0x01)),
+        Instruction::Stop => alone(nec_code(set, 0x82)),
     }
 }

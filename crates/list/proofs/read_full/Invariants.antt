@@ -1,10 +1,10 @@
--- `list::read_full` meets its contract. The loop's invariant: the bytes that were read fit in the buffer, which keeps its length.
+-- `list::read_full` meets its contract. The loop's invariant: the bytes that were read fit in the buffer.
 -- Assumes nothing.
-use Rattle.std.proofs.Common.{length, ◌-◌, ◌≤◌, ◌≡◌}
+use Rattle.std.proofs.Common.{length, ◌-◌, ◌≤◌}
 use Rattle.list.proofs.read_full.Given as goal
 
 abbrev pub invariant-loop-done : goal.invariant-loop-done
-invariant-loop-done g l = (l.done ≤ length l.buffer) × (length l.buffer ≡ length l.initial.buffer)
+invariant-loop-done g l = l.done ≤ length l.buffer
 
 abbrev pub decreases-loop-done : goal.decreases-loop-done
-decreases-loop-done g l = length l.initial.buffer - l.done
+decreases-loop-done g l = length l.buffer - l.done

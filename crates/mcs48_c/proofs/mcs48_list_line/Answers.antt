@@ -11,14 +11,14 @@ pub returns-in_default : goal.returns-in_default
 returns-in_default c =
     rw (c.pack_refusal.ensures, unknown c.set_named.ensures c.in_default.is) record { answer = refl; left = refl }
 
-pub returns-in-Printed : goal.returns-in-Printed
-returns-in-Printed c =
+pub returns-in-Ok : goal.returns-in-Ok
+returns-in-Ok c =
     let args = c.args in
-    let program : Program = under c.in-Known.named args.program.now in
+    let program : Program = under c.in-Some.named args.program.now in
     let small = (c.type_inv.program args.address).fits in
-    rw (known c.set_named.ensures c.in-Known.is) record { answer = rw c.pack.ensures.is (printed program args.address (length args.line.now) small c.line.ensures.answer c.in-Printed.is); left = c.line.ensures.left }
+    rw (known c.set_named.ensures c.in-Some.is) record { answer = rw c.pack.ensures.is (printed program args.address (length args.line.now) small c.in-Ok.ensures.answer); left = c.line.ensures.left }
 
-pub returns-in-Unlisted : goal.returns-in-Unlisted
-returns-in-Unlisted c =
-    rw (known c.set_named.ensures c.in-Known.is)
-    record { answer = rw (c.pack_refusal-in-Unlisted.ensures, ← c.line.ensures.answer, c.in-Unlisted.is); left = c.line.ensures.left }
+pub returns-in-Err : goal.returns-in-Err
+returns-in-Err c =
+    rw (known c.set_named.ensures c.in-Some.is)
+    record { answer = rw (c.pack_refusal-in-Err.ensures, ← c.in-Err.ensures.answer); left = c.line.ensures.left }

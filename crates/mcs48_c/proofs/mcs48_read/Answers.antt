@@ -1,36 +1,35 @@
--- `mcs48_c::mcs48_read` meets its contract: at each `return` the tests that led there pick its case of `read_from`.
+-- `mcs48_c::mcs48_read` meets its contract: what is read stands in the program.
 -- Assumes nothing.
-use borrow.Author.Tests.{lt-ltb, le-ltb, le-leb, lt-leb}
+use borrow.Author.Rules.{rules}
+use borrow.Author.Tests.{eq-eqb, ne_eqb}
 use Rattle.isa.specs.Choice.{pick}
-use Rattle.isa.specs.Reading.{read_of, instruction_at}
-use Rattle.mcs48_c.proofs.Naming.{known, unknown}
+use Rattle.isa.specs.Reading.{under}
+use Rattle.mcs48_c.proofs.Inside.{inside}
+use Rattle.mcs48_c.proofs.Naming.{known}
 use Rattle.mcs48_c.proofs.mcs48_read.Goals as goal
+use Rattle.mcs48_c.proofs.mcs48_read.Goals.{then-n-eq2, else-n-eq2}
 
-pub returns-in_default : goal.returns-in_default
-returns-in_default c =
-    rw (c.pack_refusal.ensures, unknown c.set_named.ensures c.in_default.is)
+pub bounds-program-address : goal.bounds-program-address
+bounds-program-address c =
+    let there = inside (under c.in-Some.named c.args.program.now) c.args.address _ _ c.in-Ok.ensures in there.first
 
-pub returns-then-program-gt-PROGRAM_LIMIT : goal.returns-then-program-gt-PROGRAM_LIMIT
-unfolding read_of instruction_at pick
-returns-then-program-gt-PROGRAM_LIMIT c =
-    simp (c.pack_refusal-then-program-gt-PROGRAM_LIMIT.ensures, known c.set_named.ensures c.in-Known.is, lt-ltb _ _ c.if-program-gt-PROGRAM_LIMIT.true)
+pub overflow_cast-address : goal.overflow_cast-address
+overflow_cast-address c =
+    let there = inside (under c.in-Some.named c.args.program.now) c.args.address _ _ c.in-Ok.ensures in
+    let short = there.short in
+    let first = there.first in
+    search rules
 
-pub returns-then-program-address : goal.returns-then-program-address
-unfolding read_of instruction_at pick
-returns-then-program-address c =
-    simp (
-      c.pack_refusal-then-program-address.ensures,
-      known c.set_named.ensures c.in-Known.is,
-      le-ltb _ _ c.if-program-gt-PROGRAM_LIMIT.false,
-      le-leb _ _ c.if-program-address.true,
-    )
+pub bounds-program-next_pc : goal.bounds-program-next_pc
+bounds-program-next_pc c =
+    let there = inside (under c.in-Some.named c.args.program.now) c.args.address _ _ c.in-Ok.ensures in
+    rw c.next_pc.ensures (there.second c.if-n-eq2.true)
 
-pub returns : goal.returns
-unfolding read_of instruction_at pick
-returns c =
-    simp (
-      known c.set_named.ensures c.in-Known.is,
-      le-ltb _ _ c.if-program-gt-PROGRAM_LIMIT.false,
-      lt-leb _ _ c.if-program-address.false,
-      c.read_at.ensures,
-    )
+pub returns-after-n-eq2 : goal.returns-after-n-eq2
+unfolding pick
+returns-after-n-eq2 c =
+    rw (c.pack.ensures.is, known c.set_named.ensures c.in-Some.is, ← c.in-Ok.ensures)
+    (elim c.if-n-eq2.branch [
+      | then-n-eq2 w ↦ rw (w.second-is, w.next_pc.ensures, eq-eqb _ _ w.if-n-eq2.true)
+      | else-n-eq2 w ↦ rw (w.second-is, ne_eqb _ _ w.if-n-eq2.false)
+    ])

@@ -1,28 +1,20 @@
 -- `mcs48_c::total` meets its contract.
 -- Assumes nothing.
-use lib.ListN.{length-set}
+use mathlib.Core.List.{List, [], ◌∷◌}
+use mathlib.Core.Path.{◌≡◌, refl}
 use native.Mathlib.Omega.{arith}
-use borrow.Author.Tests.{lt-ltb, le-ltb}
+use Prim.Native.Nat.{ℕ, ◌≤◌}
+use lib.ListN.{length, drop, set}
+use borrow.Author.Tests.{le-ltb}
 use Rattle.isa.specs.Choice.{pick}
 use Rattle.mcs48_c.specs.Calls.{totalled}
 use Rattle.mcs48_c.proofs.total.Goals as goal
 
-pub returns-then-totals-lt2 : goal.returns-then-totals-lt2
-unfolding totalled pick
-returns-then-totals-lt2 c = rw (lt-ltb _ _ c.if-totals-lt2.true)
+both-set : (old : List ℕ) (a b : ℕ) → 2 ≤ length old → a ∷ b ∷ drop 2 old ≡ set (set old 0 a) 1 b
+both-set [] a b h = absurd (omega arith)
+both-set (x ∷ []) a b h = absurd (omega arith)
+both-set (x ∷ y ∷ rest) a b h = refl
 
-pub bounds-totals-0 : goal.bounds-totals-0
+pub returns-in-Some : goal.returns-in-Some
 unfolding totalled pick
-bounds-totals-0 c = omega arith
-
-pub bounds-totals-1 : goal.bounds-totals-1
-unfolding totalled pick
-bounds-totals-1 c = simp length-set (omega arith)
-
-pub shape_of-totals : goal.shape_of-totals
-unfolding totalled pick
-shape_of-totals c = simp length-set
-
-pub returns : goal.returns
-unfolding totalled pick
-returns c = rw (le-ltb _ _ c.if-totals-lt2.false)
+returns-in-Some c = let h : 2 ≤ length c.args.totals.now = omega arith in rw (le-ltb _ _ h, ← both-set c.args.totals.now c.args.used c.args.cycles h)

@@ -1,92 +1,58 @@
--- `runs::run_on` meets its contract. The loop's invariant: the run from here on is the run from the start, and 1, 2 and 3 are not given.
--- Each turn is a law of Runs or of Laws.
+-- `runs::run_on` meets its contract: each turn of the loop is a step of the run.
 -- Assumes nothing.
-use mathlib.Core.List.{[], ◌∷◌, ◌++◌}
-use mathlib.Core.Path.{refl, sym, ap, ◌∙◌}
+use mathlib.Core.List.{[]}
+use mathlib.Core.Path.{refl, ap}
 use native.Mathlib.Omega.{arith}
-use Rattle.machine.specs.Rom.{both}
-use Rattle.chip.specs.Run.{Progress, Ended}
-use Rattle.chip.proofs.Permitted.{still-stands}
-use Rattle.chip.proofs.Runs.{next, run-short, spent, went, halted}
+use lib.ListN.{length}
+use Rattle.std.proofs.lemmas.List.{take_rest, length-drop}
+use Rattle.chip.specs.Run.{Ended}
+use Rattle.chip.proofs.Telling.{some-number}
+use Rattle.runs.proofs.Going.{runs-out, taken, goes-on, stops}
 use Rattle.runs.proofs.run_on.Goals as goal
 
-pub loop-i-init : goal.loop-i-init
-loop-i-init c =
+pub loop-left-init : goal.loop-left-init
+loop-left-init c =
     record { same_length = refl; within = omega arith; fewer = omega arith; lent = c.requires.admitted; events = []; same = refl }
 
-pub do_step-r-requires : goal.do_step-r-requires
-do_step-r-requires c = record { table_held = c.requires.table_held; admitted = c.loop-i.invariant.lent }
+pub do_step-requires : goal.do_step-requires
+do_step-requires c = record { admitted = c.loop-left.invariant.lent }
 
-pub returns-then-r-ne0 : goal.returns-then-r-ne0
-returns-then-r-ne0 c =
-    let a = c.args in
-    let l = c.loop-i in
-    let d = c.do_step-r in
-    let e =
-    halted (both a.set a.program.now a.outside.now) a.samples.now l.i
-    (record { ram = l.ram; state = l.state; used = l.i; cycles = l.cycles; events = l.invariant.events }) d.result d.new.ram
-    d.ensures.answer d.ensures.memory c.loop-i-test.true c.if-r-ne0.true
-    in
-    record { answer = ap (λ (r : Ended). r.ran) (sym e ∙ l.invariant.same); memory = ap (λ (r : Ended). r.ram) (sym e ∙ l.invariant.same) }
-
-pub overflow_add-i-in-loop-i-2 : goal.overflow_add-i-in-loop-i-2
-overflow_add-i-in-loop-i-2 c =
-    let a = c.args in
-    let l = c.loop-i in
-    let d = c.do_step-r in
-    -- the step used one sample or two, and no more cycles
-    let s = spent (both a.set a.program.now a.outside.now) a.samples.now l.i
-    (record { ram = l.ram; state = l.state; used = l.i; cycles = l.cycles; events = l.invariant.events }) d.result d.new.ram
-    d.ensures.answer d.ensures.memory c.if-r-ne0.false in
-    omega (arith, s.1, c.loop-i-test.true)
+pub overflow_add-used : goal.overflow_add-used
+overflow_add-used c =
+    let t = taken _ c.loop-left.invariant c.in-len2-up.len_at_least c.in-Ok.ensures.answer c.in-Ok.ensures.memory refl in
+    omega (arith, t.1, c.loop-left.invariant.within)
 
 pub overflow_add-cycles : goal.overflow_add-cycles
 overflow_add-cycles c =
-    let a = c.args in
-    let l = c.loop-i in
-    let d = c.do_step-r in
-    -- the step used one sample or two, and no more cycles
-    let s = spent (both a.set a.program.now a.outside.now) a.samples.now l.i
-    (record { ram = l.ram; state = l.state; used = l.i; cycles = l.cycles; events = l.invariant.events }) d.result d.new.ram
-    d.ensures.answer d.ensures.memory c.if-r-ne0.false in
-    omega (arith, s.1, s.2, l.invariant.fewer, c.loop-i-test.true)
+    let t = taken _ c.loop-left.invariant c.in-len2-up.len_at_least c.in-Ok.ensures.answer c.in-Ok.ensures.memory refl in
+    omega (arith, t.1, t.2, c.loop-left.invariant.within, c.loop-left.invariant.fewer)
 
-pub loop-i-smaller : goal.loop-i-smaller
-loop-i-smaller c =
-    let a = c.args in
-    let l = c.loop-i in
-    let d = c.do_step-r in
-    -- the step used one sample or two, and no more cycles
-    let s = spent (both a.set a.program.now a.outside.now) a.samples.now l.i
-    (record { ram = l.ram; state = l.state; used = l.i; cycles = l.cycles; events = l.invariant.events }) d.result d.new.ram
-    d.ensures.answer d.ensures.memory c.if-r-ne0.false in
-    omega (arith, s.0)
+pub slice_bounds-left-count : goal.slice_bounds-left-count
+slice_bounds-left-count c =
+    let t = taken _ c.loop-left.invariant c.in-len2-up.len_at_least c.in-Ok.ensures.answer c.in-Ok.ensures.memory refl in
+    t.1
 
-pub loop-i-preserved : goal.loop-i-preserved
-loop-i-preserved c =
-    let a = c.args in
-    let l = c.loop-i in
-    let d = c.do_step-r in
-    let m : Progress = record { ram = l.ram; state = l.state; used = l.i; cycles = l.cycles; events = l.invariant.events } in
-    let goes = c.loop-i-test.true in
-    let s = spent (both a.set a.program.now a.outside.now) a.samples.now l.i
-    (record { ram = l.ram; state = l.state; used = l.i; cycles = l.cycles; events = l.invariant.events }) d.result d.new.ram
-    d.ensures.answer d.ensures.memory c.if-r-ne0.false in
-    record {
-      same_length = d.auto.ram ∙ l.invariant.same_length;
-      within = omega (arith, s.1, goes);
-      fewer = omega (arith, s.2, l.invariant.fewer);
-      lent = still-stands (both a.set a.program.now a.outside.now) l.ram l.state _ _ d.result d.new.ram d.ensures.answer d.ensures.memory c.if-r-ne0.false l.invariant.lent;
-      events = l.invariant.events ++ ((next (both a.set a.program.now a.outside.now) a.samples.now l.i m).event ∷ []);
-      same = went (both a.set a.program.now a.outside.now) a.samples.now l.i m d.result d.new.ram d.ensures.answer d.ensures.memory goes c.if-r-ne0.false ∙ l.invariant.same;
-    }
+pub slice_bounds-left-start : goal.slice_bounds-left-start
+slice_bounds-left-start c =
+    let t = taken _ c.loop-left.invariant c.in-len2-up.len_at_least c.in-Ok.ensures.answer c.in-Ok.ensures.memory refl in
+    omega (arith, t.1)
+
+pub loop-left-smaller : goal.loop-left-smaller
+loop-left-smaller c =
+    let t = taken _ c.loop-left.invariant c.in-len2-up.len_at_least c.in-Ok.ensures.answer c.in-Ok.ensures.memory refl in
+    omega (arith, ap length (take_rest c.loop-left.left.now c.in-Ok.moved.used), length-drop c.in-Ok.moved.used c.loop-left.left.now, t.0, t.1)
+
+pub loop-left-preserved : goal.loop-left-preserved
+loop-left-preserved c =
+    rw (take_rest c.loop-left.left.now c.in-Ok.moved.used)
+    (goes-on _ c.loop-left.invariant c.in-len2-up.len_at_least c.in-Ok.ensures.answer c.in-Ok.ensures.memory refl c.do_step.auto.ram)
+
+pub returns-in-Err : goal.returns-in-Err
+returns-in-Err c =
+    let e = stops _ c.loop-left.invariant c.in-len2-up.len_at_least c.in-Err.ensures.answer c.in-Err.ensures.memory (some-number c.in-Err.refusal) in
+    record { answer = ap (λ (r : Ended). r.ran) e; memory = ap (λ (r : Ended). r.ram) e }
 
 pub returns : goal.returns
 returns c =
-    let a = c.args in
-    let l = c.loop-i in
-    let e =
-    run-short (both a.set a.program.now a.outside.now) a.samples.now l.i
-    (record { ram = l.ram; state = l.state; used = l.i; cycles = l.cycles; events = l.invariant.events }) c.loop-i-test.false
-    in
-    record { answer = ap (λ (r : Ended). r.ran) (sym e ∙ l.invariant.same); memory = ap (λ (r : Ended). r.ram) (sym e ∙ l.invariant.same) }
+    let e = runs-out _ c.loop-left.invariant c.in_default.len_below in
+    record { answer = ap (λ (r : Ended). r.ran) e; memory = ap (λ (r : Ended). r.ram) e }

@@ -9,10 +9,10 @@ pub returns-then-unasked : goal.returns-then-unasked
 unfolding pick
 returns-then-unasked c a = rw c.if-unasked.true c.nothing_shown.ensures
 
-pub returns-then-samples-lt2 : goal.returns-then-samples-lt2
+pub returns-in_default : goal.returns-in_default
 unfolding pick
-returns-then-samples-lt2 c a = rw c.if-unasked.false (c.nothing_shown-then-samples-lt2.ensures ∙ sym (short-unshown _ _ _ _ c.if-samples-lt2.true))
+returns-in_default c a = rw c.if-unasked.false (c.nothing_shown-in_default.ensures ∙ sym (short-unshown _ _ _ _ c.in_default.len_below))
 
-pub returns : goal.returns
+pub returns-in-len2-up : goal.returns-in-len2-up
 unfolding pick
-returns c a = rw c.if-unasked.false (shown-first _ _ _ _ c.if-samples-lt2.false c.report_of.ensures a)
+returns-in-len2-up c a = rw c.if-unasked.false (shown-first _ _ _ _ c.in-len2-up.len_at_least c.report_of.ensures a)

@@ -1,24 +1,37 @@
 -- `runs::step` meets its contract: what 1, 2 and 3 refuse, the definition refuses too.
 -- Assumes nothing.
-use Rattle.machine.specs.Rom.{both}
+use mathlib.Core.Path.{◌≡◌, sym, ap, ◌∙◌}
+use Rattle.std.proofs.lemmas.Result.{err_from_is_err_and}
+use Rattle.machine.specs.Rom.{lent_as}
+use Rattle.isa.specs.Numbers.{number_of}
+use Rattle.chip.specs.Admission.{lent_of}
+use Rattle.chip.specs.Step.{Moved, step_of}
 use Rattle.chip.proofs.Exactly.{lent-refuses, refused-step}
+use Rattle.chip.proofs.Telling.{some-number, moved-and-shown}
 use Rattle.runs.proofs.step.Goals as goal
 
-pub returns-then-refused-ne0 : goal.returns-then-refused-ne0
-returns-then-refused-ne0 c =
+pub returns-in_err-admit : goal.returns-in_err-admit
+returns-in_err-admit c =
     let a = c.args in
-    let e = c.lent_number-refused.ensures in
-    let r = lent-refuses (both a.set a.program.now a.outside.now) a.ram.now a.state a.first a.second (rw e at c.if-refused-ne0.true) in
-    record { answer = rw (c.refuse.ensures, r.0, e); memory = rw r.1 }
+    let p = err_from_is_err_and c.from_residual.result c.from_residual.ensures.1 in
+    let e : number_of c.in_err-admit.field-0.0 ≡ lent_of (lent_as a.lent) a.ram.now a.state = rw c.in_err-admit.was at c.admit.ensures in
+    let r = lent-refuses (lent_as a.lent) a.ram.now a.state a.pins.first a.pins.second (λ z. some-number c.in_err-admit.field-0.0 (e ∙ z)) in
+    record { answer = rw (p.1, p.2, r.0, e); memory = rw r.1 }
 
-pub returns-then-m-ne0 : goal.returns-then-m-ne0
-returns-then-m-ne0 c =
-    let m = c.do_step-m.ensures in
-    let z = c.if-m-ne0.true in
-    record { answer = rw (c.refuse-then-m-ne0.ensures, m.answer, refused-step _ _ _ _ _ (rw m.answer at z)); memory = m.memory }
+pub returns-in_err-moved : goal.returns-in_err-moved
+returns-in_err-moved c =
+    let a = c.args in
+    let p = err_from_is_err_and c.from_residual-in_err-moved.result c.from_residual-in_err-moved.ensures.1 in
+    let n : number_of c.in_err-moved.field-0.0 ≡ (step_of (lent_as a.lent) a.ram.now a.state a.pins.first a.pins.second).number =
+    ap (λ (m : Moved). m.number) c.in_err-moved.ensures.answer
+    in
+    record {
+      answer = rw (p.1, p.2, n, refused-step _ _ _ _ _ (λ z. some-number c.in_err-moved.field-0.0 (n ∙ z)));
+      memory = c.do_step.ensures.memory;
+    }
 
 pub returns : goal.returns
 returns c =
-    let m = c.do_step-m.ensures in
-    let z = c.if-m-ne0.false in
-    record { answer = rw (c.report_of-shown.ensures (rw m.answer at z), m.answer, rw m.answer at z); memory = m.memory }
+    let m = c.in_ok-moved.ensures.answer in
+    let z = sym (ap (λ (m : Moved). m.number) m) in
+    record { answer = moved-and-shown _ m (c.report_of-shown.ensures z); memory = c.do_step.ensures.memory }

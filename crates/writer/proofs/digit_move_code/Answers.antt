@@ -10,16 +10,16 @@ use Rattle.writer.proofs.digit_move_code.Goals as goal
 
 pub returns-in-MovdRead : goal.returns-in-MovdRead
 unfolding entry_of kind_of pick
-returns-in-MovdRead c = rw c.in-MovdRead.is (low-writes 0x08 4 7 (λ k. Expander MovdRead k) (λ k h. h) refl refl c.coded_low.ensures)
+returns-in-MovdRead c = rw c.in-MovdRead.is (low-writes 0x08 4 7 (λ k. Expander MovdRead k) (λ k h. h) refl refl c.coded_low.ensures refl)
 
 pub returns-in-MovdWrite : goal.returns-in-MovdWrite
 unfolding entry_of kind_of pick
-returns-in-MovdWrite c = rw c.in-MovdWrite.is (low-writes 0x38 4 7 (λ k. Expander MovdWrite k) (λ k h. h) refl refl c.coded_low-in-MovdWrite.ensures)
+returns-in-MovdWrite c = rw c.in-MovdWrite.is (low-writes 0x38 4 7 (λ k. Expander MovdWrite k) (λ k h. h) refl refl c.coded_low-in-MovdWrite.ensures refl)
 
 pub returns-in-Orld : goal.returns-in-Orld
 unfolding entry_of kind_of pick
-returns-in-Orld c = rw c.in-Orld.is (low-writes 0x88 4 7 (λ k. Expander Orld k) (λ k h. h) refl refl c.coded_low-in-Orld.ensures)
+returns-in-Orld c = rw c.in-Orld.is (low-writes 0x88 4 7 (λ k. Expander Orld k) (λ k h. h) refl refl c.coded_low-in-Orld.ensures refl)
 
 pub returns-in-Anld : goal.returns-in-Anld
 unfolding entry_of kind_of pick
-returns-in-Anld c = rw c.in-Anld.is (low-writes 0x98 4 7 (λ k. Expander Anld k) (λ k h. h) refl refl c.coded_low-in-Anld.ensures)
+returns-in-Anld c = rw c.in-Anld.is (low-writes 0x98 4 7 (λ k. Expander Anld k) (λ k h. h) refl refl c.coded_low-in-Anld.ensures refl)

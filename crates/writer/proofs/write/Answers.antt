@@ -4,18 +4,13 @@ use mathlib.Core.Path.{refl}
 use Rattle.isa.specs.Choice.{pick}
 use Rattle.isa.specs.Sheet.{kind_of, entry_of}
 use Rattle.isa.specs.Reading.{read_of, instruction_at, decoded_at}
-use Rattle.isa.specs.declared.Instruction.TheVariants.{Djnz, Branch, Jmp, MovA, Mov, MovxRead, MovxWrite, Xch, Xchd, Logic, In, Outl, Dec, Inc, Call, Halt, Stop}
+use Rattle.isa.specs.declared.Instruction.TheVariants.{Djnz, Branch, Jmp, MovA, Mov, MovxRead, MovxWrite, Xch, Xchd, Cpl, Clr, Logic, In, Outl, Dec, Inc, Call, Halt, Stop}
 use Rattle.isa.specs.Sets.{standby, halt, stop}
-use Rattle.writer.proofs.Families.{reads-one, low-writes, low-writes-two, far-writes, cell-writes, mov-data-writes, source-writes, latch-writes, second-writes, nec-writes}
+use Rattle.writer.proofs.Families.{low-writes, low-writes-two, far-writes, cell-writes, mov-data-writes, source-writes, latch-writes, second-writes, flag-writes, nec-writes}
 use Rattle.writer.proofs.write.Goals as goal
 
 pub returns-in-Alu : goal.returns-in-Alu
-unfolding entry_of kind_of pick
 returns-in-Alu c = rw c.in-Alu.is (c.operation_code.ensures _)
-
-pub returns-in-Accumulator : goal.returns-in-Accumulator
-unfolding entry_of kind_of pick
-returns-in-Accumulator c = rw c.in-Accumulator.is (c.unary_code.ensures _)
 
 pub returns-in-Djnz : goal.returns-in-Djnz
 unfolding entry_of kind_of pick
@@ -29,65 +24,41 @@ pub returns-in-Jmp : goal.returns-in-Jmp
 unfolding entry_of kind_of pick
 returns-in-Jmp c = far-writes 0x04 (λ a. Jmp a) (λ a. refl) (λ d. refl) c.in-Jmp.is c.coded_high.ensures c.with_second-in-Jmp.ensures _
 
-pub returns-in-Jmpp : goal.returns-in-Jmpp
-unfolding entry_of kind_of pick
-returns-in-Jmpp c = rw c.in-Jmpp.is (reads-one _ _ refl _)
-
-pub returns-in-Control : goal.returns-in-Control
-unfolding entry_of kind_of pick
-returns-in-Control c = rw c.in-Control.is (c.switch_code.ensures _)
-
 pub returns-in-MovA : goal.returns-in-MovA
 unfolding entry_of kind_of pick
 returns-in-MovA c = source-writes 0xF0 0x23 (λ s. MovA s) (λ s. refl) refl refl (λ d. refl) c.in-MovA.is c.source_code.ensures _
 
 pub returns-in-Mov : goal.returns-in-Mov
 unfolding entry_of kind_of pick
-returns-in-Mov c = cell-writes 0xA0 (λ c. Mov c) (λ c. refl) refl refl c.in-Mov.is c.cell_code.ensures _
+returns-in-Mov c = cell-writes 0xA0 (λ c. Mov c) (λ c. refl) refl refl c.in-Mov.is c.cell_code.ensures c.alone.ensures _
 
 pub returns-in-MovData : goal.returns-in-MovData
 unfolding entry_of kind_of pick
 returns-in-MovData c = mov-data-writes c.in-MovData.is c.cell_code-in-MovData.ensures c.with_second-in-MovData.ensures _
 
-pub returns-in-MovAPsw : goal.returns-in-MovAPsw
-unfolding entry_of kind_of pick
-returns-in-MovAPsw c = rw c.in-MovAPsw.is (reads-one _ _ refl _)
-
-pub returns-in-MovPswA : goal.returns-in-MovPswA
-unfolding entry_of kind_of pick
-returns-in-MovPswA c = rw c.in-MovPswA.is (reads-one _ _ refl _)
-
-pub returns-in-Movp : goal.returns-in-Movp
-unfolding entry_of kind_of pick
-returns-in-Movp c = rw c.in-Movp.is (reads-one _ _ refl _)
-
-pub returns-in-Movp3 : goal.returns-in-Movp3
-unfolding entry_of kind_of pick
-returns-in-Movp3 c = rw c.in-Movp3.is (reads-one _ _ refl _)
-
 pub returns-in-MovxRead : goal.returns-in-MovxRead
 unfolding entry_of kind_of pick
-returns-in-MovxRead c = low-writes 0x80 0 1 (λ k. MovxRead k) (λ k h. h) refl c.in-MovxRead.is c.coded_low-in-MovxRead.ensures _
+returns-in-MovxRead c = low-writes 0x80 0 1 (λ k. MovxRead k) (λ k h. h) refl c.in-MovxRead.is c.coded_low-in-MovxRead.ensures c.alone-in-MovxRead.ensures _
 
 pub returns-in-MovxWrite : goal.returns-in-MovxWrite
 unfolding entry_of kind_of pick
-returns-in-MovxWrite c = low-writes 0x90 0 1 (λ k. MovxWrite k) (λ k h. h) refl c.in-MovxWrite.is c.coded_low-in-MovxWrite.ensures _
+returns-in-MovxWrite c = low-writes 0x90 0 1 (λ k. MovxWrite k) (λ k h. h) refl c.in-MovxWrite.is c.coded_low-in-MovxWrite.ensures c.alone-in-MovxWrite.ensures _
 
 pub returns-in-Xch : goal.returns-in-Xch
 unfolding entry_of kind_of pick
-returns-in-Xch c = cell-writes 0x20 (λ c. Xch c) (λ c. refl) refl refl c.in-Xch.is c.cell_code-in-Xch.ensures _
+returns-in-Xch c = cell-writes 0x20 (λ c. Xch c) (λ c. refl) refl refl c.in-Xch.is c.cell_code-in-Xch.ensures c.alone-in-Xch.ensures _
 
 pub returns-in-Xchd : goal.returns-in-Xchd
 unfolding entry_of kind_of pick
-returns-in-Xchd c = low-writes 0x30 0 1 (λ k. Xchd k) (λ k h. h) refl c.in-Xchd.is c.coded_low-in-Xchd.ensures _
+returns-in-Xchd c = low-writes 0x30 0 1 (λ k. Xchd k) (λ k h. h) refl c.in-Xchd.is c.coded_low-in-Xchd.ensures c.alone-in-Xchd.ensures _
 
 pub returns-in-Cpl : goal.returns-in-Cpl
 unfolding entry_of kind_of pick
-returns-in-Cpl c = rw c.in-Cpl.is (c.cpl_code.ensures _)
+returns-in-Cpl c = flag-writes 0xA7 0x95 0xB5 (λ f. Cpl f) refl refl refl c.in-Cpl.is c.flag_code.ensures _
 
 pub returns-in-Clr : goal.returns-in-Clr
 unfolding entry_of kind_of pick
-returns-in-Clr c = rw c.in-Clr.is (c.clr_code.ensures _)
+returns-in-Clr c = flag-writes 0x97 0x85 0xA5 (λ f. Clr f) refl refl refl c.in-Clr.is c.flag_code-in-Clr.ensures _
 
 pub returns-in-Logic : goal.returns-in-Logic
 unfolding entry_of kind_of pick
@@ -95,52 +66,32 @@ returns-in-Logic c = second-writes (λ d. Logic _ _ d) c.logic_code.result c.in-
 
 pub returns-in-In : goal.returns-in-In
 unfolding entry_of kind_of pick
-returns-in-In c = latch-writes 0x08 0x08 (λ l. In l) (λ l. refl) refl refl c.in-In.is c.latch_code.ensures _
+returns-in-In c = latch-writes 0x08 0x08 (λ l. In l) (λ l. refl) refl refl c.in-In.is c.latch_code.ensures c.alone-in-In.ensures _
 
 pub returns-in-Outl : goal.returns-in-Outl
 unfolding entry_of kind_of pick
-returns-in-Outl c = latch-writes 0x02 0x38 (λ l. Outl l) (λ l. refl) refl refl c.in-Outl.is c.latch_code-in-Outl.ensures _
+returns-in-Outl c = latch-writes 0x02 0x38 (λ l. Outl l) (λ l. refl) refl refl c.in-Outl.is c.latch_code-in-Outl.ensures c.alone-in-Outl.ensures _
 
 pub returns-in-Expander : goal.returns-in-Expander
 unfolding entry_of kind_of pick
-returns-in-Expander c = rw c.in-Expander.is (c.digit_move_code.ensures _)
+returns-in-Expander c = rw (c.in-Expander.is, c.alone-in-Expander.ensures) (c.digit_move_code.ensures _)
 
 pub returns-in-Dec : goal.returns-in-Dec
 unfolding entry_of kind_of pick
-returns-in-Dec c = low-writes 0xC8 0 7 (λ k. Dec k) (λ k h. h) refl c.in-Dec.is c.coded_low-in-Dec.ensures _
+returns-in-Dec c = low-writes 0xC8 0 7 (λ k. Dec k) (λ k h. h) refl c.in-Dec.is c.coded_low-in-Dec.ensures c.alone-in-Dec.ensures _
 
 pub returns-in-Inc : goal.returns-in-Inc
 unfolding entry_of kind_of pick
-returns-in-Inc c = cell-writes 0x10 (λ c. Inc c) (λ c. refl) refl refl c.in-Inc.is c.cell_code-in-Inc.ensures _
+returns-in-Inc c = cell-writes 0x10 (λ c. Inc c) (λ c. refl) refl refl c.in-Inc.is c.cell_code-in-Inc.ensures c.alone-in-Inc.ensures _
 
 pub returns-in-Call : goal.returns-in-Call
 unfolding entry_of kind_of pick
 returns-in-Call c = far-writes 0x14 (λ a. Call a) (λ a. refl) (λ d. refl) c.in-Call.is c.coded_high-in-Call.ensures c.with_second-in-Call.ensures _
 
-pub returns-in-Ret : goal.returns-in-Ret
-unfolding entry_of kind_of pick
-returns-in-Ret c = rw c.in-Ret.is (reads-one _ _ refl _)
-
-pub returns-in-Retr : goal.returns-in-Retr
-unfolding entry_of kind_of pick
-returns-in-Retr c = rw c.in-Retr.is (reads-one _ _ refl _)
-
-pub returns-in-MovAT : goal.returns-in-MovAT
-unfolding entry_of kind_of pick
-returns-in-MovAT c = rw c.in-MovAT.is (reads-one _ _ refl _)
-
-pub returns-in-MovTA : goal.returns-in-MovTA
-unfolding entry_of kind_of pick
-returns-in-MovTA c = rw c.in-MovTA.is (reads-one _ _ refl _)
-
-pub returns-in-Nop : goal.returns-in-Nop
-unfolding entry_of kind_of pick
-returns-in-Nop c = rw c.in-Nop.is (reads-one _ _ refl _)
-
 pub returns-in-Halt : goal.returns-in-Halt
 unfolding read_of instruction_at decoded_at entry_of kind_of pick
-returns-in-Halt c = nec-writes 0x01 Halt (standby halt) refl _ c.in-Halt.is c.nec_code.ensures
+returns-in-Halt c = nec-writes 0x01 Halt (standby halt) refl _ c.in-Halt.is c.nec_code.ensures c.alone-in-Halt.ensures
 
 pub returns-in-Stop : goal.returns-in-Stop
 unfolding read_of instruction_at decoded_at entry_of kind_of pick
-returns-in-Stop c = nec-writes 0x82 Stop (standby stop) refl _ c.in-Stop.is c.nec_code-in-Stop.ensures
+returns-in-Stop c = nec-writes 0x82 Stop (standby stop) refl _ c.in-Stop.is c.nec_code-in-Stop.ensures c.alone-in-Stop.ensures

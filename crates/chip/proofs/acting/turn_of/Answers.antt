@@ -28,24 +28,24 @@ pub returns-in-Released : goal.returns-in-Released
 returns-in-Released c program ram lent =
     let mode = c.in-Released.is in
     let a = c.args in
-    carries-out program ram _ _ _ lent (sym c.samples_allowed-allowed.ensures ∙ c.if-not-allowed.false) (ne_eqb _ _ c.if-resets.false) (ap is_waiting mode) (released-external a.s a.first mode) (released-timer a.s mode)
+    carries-out program ram _ _ _ lent (sym c.samples_allowed-allowed.ensures ∙ c.if-not-allowed.false) (ne_eqb _ _ c.if-resets.false) (ap is_waiting mode) (released-external a.s a.pins.first mode) (released-timer a.s mode)
 
 pub returns-then-external : goal.returns-then-external
 returns-then-external c program ram lent =
     let mode = c.in-Running.is in
     let a = c.args in
-    calls-external program ram _ _ _ lent (sym c.samples_allowed-allowed.ensures ∙ c.if-not-allowed.false) (ne_eqb _ _ c.if-resets.false) (ap is_waiting mode) (running-external a.s a.first mode c.if-external.true)
+    calls-external program ram _ _ _ lent (sym c.samples_allowed-allowed.ensures ∙ c.if-not-allowed.false) (ne_eqb _ _ c.if-resets.false) (ap is_waiting mode) (running-external a.s a.pins.first mode c.if-external.true)
 
 pub returns-then-timer : goal.returns-then-timer
 returns-then-timer c program ram lent =
     let mode = c.in-Running.is in
     let a = c.args in
     calls-timer program ram _ _ _ lent (sym c.samples_allowed-allowed.ensures ∙ c.if-not-allowed.false) (ne_eqb _ _ c.if-resets.false) (ap is_waiting mode)
-    (running-external a.s a.first mode c.if-external.false) (running-timer a.s mode c.if-timer.true)
+    (running-external a.s a.pins.first mode c.if-external.false) (running-timer a.s mode c.if-timer.true)
 
 pub returns : goal.returns
 returns c program ram lent =
     let mode = c.in-Running.is in
     let a = c.args in
     carries-out program ram _ _ _ lent (sym c.samples_allowed-allowed.ensures ∙ c.if-not-allowed.false) (ne_eqb _ _ c.if-resets.false) (ap is_waiting mode)
-    (running-external a.s a.first mode c.if-external.false) (running-timer a.s mode c.if-timer.false)
+    (running-external a.s a.pins.first mode c.if-external.false) (running-timer a.s mode c.if-timer.false)

@@ -5,4 +5,4 @@ use Rattle.chip.proofs.acting.without_request.Goals as goal
 
 pub returns : goal.returns
 unfolding without_request
-returns c = rw c.with_count.ensures
+returns c = simp (c.with_count.ensures, c.count.ensures)

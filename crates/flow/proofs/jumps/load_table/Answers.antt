@@ -1,13 +1,19 @@
 -- `flow::jumps::load_table` meets its contract.
 -- Assumes nothing.
+use Rattle.std.proofs.lemmas.Result.{err_from_is_err_and}
 use Rattle.isa.specs.Choice.{pick}
-use Rattle.machine.proofs.Seeing.{found-lacking, found-byte}
+use Rattle.flow.proofs.Tables.{table-lacks, table-has}
 use Rattle.flow.proofs.jumps.load_table.Goals as goal
 
-pub returns-then-b : goal.returns-then-b
+pub returns-in_err-byte : goal.returns-in_err-byte
 unfolding pick
-returns-then-b c = simp (found-lacking _ _ _ _ _ c.fetch-b.ensures c.if-b.true, c.with_pc.ensures, c.lacking_effect.ensures)
+returns-in_err-byte c base =
+    let t = table-lacks _ _ _ c.table_byte.ensures c.in_err-byte.was in
+    let p = err_from_is_err_and c.from_residual.result c.from_residual.ensures.1 in
+    simp (t.0, p.1, p.2, t.1)
 
 pub returns : goal.returns
 unfolding pick
-returns c = simp (found-lacking _ _ _ _ _ c.fetch-b.ensures c.if-b.false, c.with_a.ensures, c.quiet_effect.ensures, found-byte _ _ _ _ _ c.fetch-b.ensures)
+returns c base =
+    let t = table-has _ _ _ c.table_byte.ensures c.in_ok-byte.was in
+    simp (t.0, c.quiet_effect.ensures, c.with_a.ensures, t.1)

@@ -4,7 +4,7 @@ use Prim.Native.Nat.{ℕ}
 use native.Mathlib.Omega.{arith}
 use mathlib.Core.Path.{◌≡◌, subst}
 use mathlib.Core.List.{List}
-use Rattle.machine.specs.Rom.{Roms, both}
+use Rattle.machine.specs.Rom.{Roms, lent_as}
 use Rattle.machine.specs.declared.State.{State}
 use Rattle.chip.specs.Step.{course_by, course}
 use Rattle.chip.specs.declared.Turn.{Turn}
@@ -21,23 +21,23 @@ turned roms ram s first second h e = subst (λ (t : Turn). course roms ram s fir
 clash : ◌≡◌ {A = ℕ} 0 1 → ⊥
 clash z = omega arith
 
-pub report_at-requires-clause-room : goal.report_at-requires-clause-room
-report_at-requires-clause-room c = roomy (both c.args.set c.args.program.now c.args.outside.now) c.args.ram.now c.args.s c.args.first c.args.second c.requires.admitted
+pub report_at-requires : goal.report_at-requires
+report_at-requires c = roomy (lent_as c.args.lent) c.args.ram.now c.args.s c.args.pins.first c.args.pins.second c.requires.admitted
 
 pub returns-in-Refuse : goal.returns-in-Refuse
-returns-in-Refuse c = shows-nothing _ _ _ _ _ Refuse (λ e. clash cc) (turned _ _ _ _ _ (c.turn_of.ensures (both c.args.set c.args.program.now c.args.outside.now) c.args.ram.now c.requires.admitted) c.in-Refuse.is) c.nothing_shown.ensures
+returns-in-Refuse c = shows-nothing _ _ _ _ _ Refuse (λ e. clash cc) (turned _ _ _ _ _ (c.turn_of.ensures (lent_as c.args.lent) c.args.ram.now c.requires.admitted) c.in-Refuse.is) c.nothing_shown.ensures
 
 pub returns-in-Reset : goal.returns-in-Reset
-returns-in-Reset c = shows-nothing _ _ _ _ _ Reset (λ e. clash cc) (turned _ _ _ _ _ (c.turn_of.ensures (both c.args.set c.args.program.now c.args.outside.now) c.args.ram.now c.requires.admitted) c.in-Reset.is) c.nothing_shown-in-Reset.ensures
+returns-in-Reset c = shows-nothing _ _ _ _ _ Reset (λ e. clash cc) (turned _ _ _ _ _ (c.turn_of.ensures (lent_as c.args.lent) c.args.ram.now c.requires.admitted) c.in-Reset.is) c.nothing_shown-in-Reset.ensures
 
 pub returns-in-Wait : goal.returns-in-Wait
-returns-in-Wait c = shows-nothing _ _ _ _ _ Wait (λ e. clash cc) (turned _ _ _ _ _ (c.turn_of.ensures (both c.args.set c.args.program.now c.args.outside.now) c.args.ram.now c.requires.admitted) c.in-Wait.is) c.nothing_shown-in-Wait.ensures
+returns-in-Wait c = shows-nothing _ _ _ _ _ Wait (λ e. clash cc) (turned _ _ _ _ _ (c.turn_of.ensures (lent_as c.args.lent) c.args.ram.now c.requires.admitted) c.in-Wait.is) c.nothing_shown-in-Wait.ensures
 
 pub returns-in-ExternalCall : goal.returns-in-ExternalCall
-returns-in-ExternalCall c = shows-nothing _ _ _ _ _ ExternalCall (λ e. clash cc) (turned _ _ _ _ _ (c.turn_of.ensures (both c.args.set c.args.program.now c.args.outside.now) c.args.ram.now c.requires.admitted) c.in-ExternalCall.is) c.nothing_shown-in-ExternalCall.ensures
+returns-in-ExternalCall c = shows-nothing _ _ _ _ _ ExternalCall (λ e. clash cc) (turned _ _ _ _ _ (c.turn_of.ensures (lent_as c.args.lent) c.args.ram.now c.requires.admitted) c.in-ExternalCall.is) c.nothing_shown-in-ExternalCall.ensures
 
 pub returns-in-TimerCall : goal.returns-in-TimerCall
-returns-in-TimerCall c = shows-nothing _ _ _ _ _ TimerCall (λ e. clash cc) (turned _ _ _ _ _ (c.turn_of.ensures (both c.args.set c.args.program.now c.args.outside.now) c.args.ram.now c.requires.admitted) c.in-TimerCall.is) c.nothing_shown-in-TimerCall.ensures
+returns-in-TimerCall c = shows-nothing _ _ _ _ _ TimerCall (λ e. clash cc) (turned _ _ _ _ _ (c.turn_of.ensures (lent_as c.args.lent) c.args.ram.now c.requires.admitted) c.in-TimerCall.is) c.nothing_shown-in-TimerCall.ensures
 
 pub returns-in-CarryOut : goal.returns-in-CarryOut
-returns-in-CarryOut c = shows-instruction _ _ _ _ _ (turned _ _ _ _ _ (c.turn_of.ensures (both c.args.set c.args.program.now c.args.outside.now) c.args.ram.now c.requires.admitted) c.in-CarryOut.is) (c.report_at.ensures _)
+returns-in-CarryOut c = shows-instruction _ _ _ _ _ (turned _ _ _ _ _ (c.turn_of.ensures (lent_as c.args.lent) c.args.ram.now c.requires.admitted) c.in-CarryOut.is) (c.report_at.ensures _)

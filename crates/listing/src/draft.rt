@@ -1,0 +1,150 @@
+// A line while it is made.
+ghost use Rattle.std.specs.Prelude.{◌≡◌, [], ◌∷◌, ◌++◌, ◌≤◌, ◌<◌, List, ℕ, length, take, drop};
+ghost use Rattle.listing.specs.Draft.{cut, Adds};
+ghost use Rattle.listing.specs.Item.{ending_of, letter_of, line_of};
+ghost use Rattle.listing.specs.Text.{digit_of, hex2, hex3, lead, byte_number, address_number};
+
+use crate::item::Item;
+use crate::{LINE_BYTES, text};
+use std::marker::Model;
+
+// The capital hex digit of a number below 16.
+fn digit(v: u8) -> u8
+    requires { v < 16 }
+    ensures { result ≡ digit_of v }
+{
+    if v < 10 { b'0' + v } else { b'A' + (v - 10) }
+}
+
+fn hex2(v: u8) -> [u8; 2]
+    ensures { result ≡ hex2 v }
+{
+    [digit(v / 16), digit(v % 16)]
+}
+
+fn hex3(v: u16) -> [u8; 3]
+    requires { v < 4096 }
+    ensures { result ≡ hex3 v }
+{
+    let [high, low] = v.to_be_bytes();
+    let [second, third] = hex2(low);
+    [digit(high), second, third]
+}
+
+// A 0 before a leading letter.
+fn lead(v: u8) -> &'static [u8]
+    ensures { result.now ≡ lead v }
+{
+    let small = v < 10;
+    if small { b"" } else { b"0" }
+}
+
+// The bytes so far. A full line stays as it is.
+#[derive(Drop)]
+pub struct Draft {
+    bytes: [u8; LINE_BYTES],
+    length: usize,
+}
+
+impl Model for Draft {
+    ghost Value = { List ℕ };
+
+    ghost view = { λ d. take d.length d.bytes };
+
+    ghost invariant = { λ d. d.length ≤ 32 };
+}
+
+impl Draft {
+    fn new() -> Self
+        ensures { result ≡ [] }
+    {
+        Draft {
+            bytes: [0; LINE_BYTES],
+            length: 0,
+        }
+    }
+
+    // The line of an item: "address in 3 hex digits, 2 spaces, bytes padded to 5, 2 spaces, text", and LF.
+    pub fn of(item: &Item) -> Self
+        ensures { result ≡ cut (line_of item.now) }
+    {
+        let mut line = Draft::new();
+        line.put(&hex3(item.address));
+        line.put(b"  ");
+        line.put(&hex2(item.code));
+        match item.second {
+            Some(second) => {
+                line.put(b" ");
+                line.put(&hex2(second));
+            }
+            None => line.put(b"   "),
+        }
+        line.put_ending(item);
+        line
+    }
+
+    // Puts bytes behind the line, as many as there is room for.
+    fn put(&mut self, bytes: &[u8])
+        ensures { Adds self.old bytes.now self.new }
+    {
+        let room = LINE_BYTES - self.length;
+        let n = room.min(bytes.len());
+        self.bytes[self.length..self.length + n].copy_from_slice(&bytes[..n]);
+        self.length += n;
+    }
+
+    fn put_byte(&mut self, v: u8)
+        ensures { Adds self.old (byte_number v) self.new }
+    {
+        self.put(lead(v / 16));
+        self.put(&hex2(v));
+        self.put(b"H");
+    }
+
+    fn put_address(&mut self, v: u16)
+        requires { v < 4096 }
+        ensures { Adds self.old (address_number v) self.new }
+    {
+        let [high, _] = v.to_be_bytes();
+        self.put(lead(high));
+        self.put(&hex3(v));
+        self.put(b"H");
+    }
+
+    // One letter of a row's text: a small letter is a number.
+    fn put_letter(&mut self, item: &Item, letter: u8)
+        ensures { Adds self.old (letter_of item.now letter) self.new }
+    {
+        let data = item.second.unwrap_or(item.code);
+        match letter {
+            b'r' | b'p' => self.put(&[digit(item.code % 8)]),
+            b'b' => self.put(&[digit(item.code / 32)]),
+            b'd' => self.put_byte(data),
+            b'a' => self.put_address(u16::from_be_bytes([item.code / 32, data])),
+            b't' => self.put_address(isa::pages::branch_target(item.address, data)),
+            _ => self.put(&[letter]),
+        }
+    }
+
+    // The text behind its 2 spaces, and LF.
+    fn put_ending(&mut self, item: &Item)
+        ensures { Adds self.old (ending_of item.now) self.new }
+    {
+        self.put(b"  ");
+        for letter in text::text_of(item.kind).as_bytes() {
+            self.put_letter(item, *letter);
+        }
+        self.put(b"\n");
+    }
+
+    // Copies the line to the front of a buffer, and gives its length.
+    pub fn copy_to(&self, buffer: &mut [u8]) -> usize
+        requires { 32 ≤ length buffer.old }
+        ensures length { result ≡ length self.now }
+        ensures copied { buffer.new ≡ self.now ++ drop (length self.now) buffer.old }
+    {
+        let n = self.length;
+        buffer[..n].copy_from_slice(&self.bytes[..n]);
+        n
+    }
+}
