@@ -1,7 +1,7 @@
 -- A step gives a number exactly when document 01's table says so; and a refused step changes nothing (demand 1).
 -- Assumes nothing.
-use Prim.Native.Nat.{ℕ, ◌≤◌}
-use mathlib.Core.Bool.{Bool, true, false, not, ◌&&◌, ◌||◌, false≢true}
+use Prim.Native.Nat.{ℕ, ◌≤◌, ◌<◌}
+use mathlib.Core.Bool.{Bool, true, false, not, ◌&&◌}
 use mathlib.Core.List.{List}
 use mathlib.Core.Path.{◌≡◌, refl, sym, ◌∙◌, ap, subst}
 use native.Mathlib.Omega.{arith}
@@ -12,6 +12,7 @@ use Rattle.isa.specs.Choice.{pick}
 use Rattle.isa.specs.Numbers.{Answer, given, refused}
 use Rattle.isa.specs.Reading.{entry_at, Sized, sized, lacks, next_pc, instruction_at, decoded_at}
 use Rattle.isa.specs.declared.Switch.TheVariants.{EnI, DisI, Ent0Clk, SelMb0, SelMb1, SelRb0, SelRb1, EnTcnti, DisTcnti, StopTcnt, StrtCnt, StrtT}
+use Rattle.isa.specs.declared.Set.{Set}
 use Rattle.isa.specs.declared.Instruction.{Instruction}
 use Rattle.isa.specs.declared.Instruction.TheVariants.{Alu, Accumulator, Djnz, Branch, Jmp, Jmpp, Control, MovA, Mov, MovData, MovAPsw, MovPswA, Movp, Movp3, MovxRead, MovxWrite, Xch, Xchd, Cpl, Clr, Logic, In, Outl, Expander, Dec, Inc, Call, Ret, Retr, MovAT, MovTA, Nop, Halt, Stop}
 use Rattle.machine.specs.Mode.{is_waiting}
@@ -135,6 +136,11 @@ module _ (program ram : List ℕ) (s : State) (base first second : ℕ) where
       (i : Instruction) → ((executed i program ram s base first second).number ≡ 0 → ⊥) → (executed i program ram s base first second).write ≡ Nothing
   refused-writes i h = (numbered i h).silent
 
+-- RAM of fewer than 64 bytes is refused.
+pub small_ram : (set : Set) (inside outside ram : ℕ) (s : State) → ram < 64 → 1 ≤ lent_number set inside outside ram s
+unfolding lent_number pick
+small_ram set inside outside ram s h = grind arith
+
 module _ (roms : Roms) (ram : List ℕ) (s : State) (first second : ℕ) where
   abbrev pub G : ℕ → Type 0
   G n = Gives roms ram s first second n
@@ -182,15 +188,7 @@ module _ (roms : Roms) (ram : List ℕ) (s : State) (first second : ℕ) where
 
   -- Every chip has 64 bytes of RAM at least.
   pub roomy : lent_of roms ram s ≡ 0 → 64 ≤ length ram
-  roomy e = go (eqb (length ram) 64) (eqb (length ram) 128) (eqb (length ram) 256) refl refl refl (allowed e).ram_sized
-    where
-      go :
-          (x y z : Bool) → eqb (length ram) 64 ≡ x → eqb (length ram) 128 ≡ y → eqb (length ram) 256 ≡ z → (x || y || z) ≡ true
-          → 64 ≤ length ram
-      go true y z p q r h = let n = eqb-true (length ram) 64 p in omega arith
-      go false true z p q r h = let n = eqb-true (length ram) 128 q in omega arith
-      go false false true p q r h = let n = eqb-true (length ram) 256 r in omega arith
-      go false false false p q r h = absurd (false≢true h)
+  roomy e = grind (arith, small_ram)
 
   -- Where 1, 2 and 3 are not given, the samples alone decide.
   pub samples-decide : lent_of roms ram s ≡ 0 → admission roms ram s first second ≡ sample_number first second
@@ -204,6 +202,10 @@ module _ (roms : Roms) (ram : List ℕ) (s : State) (first second : ℕ) where
       × (ram_after roms ram s first second ≡ ram)
   unfolding course admission declined plan_by written pick
   lent-refuses z = (simp (ne_eqb (lent_of roms ram s) 0 z), simp (ne_eqb (lent_of roms ram s) 0 z))
+
+  pub lent-declines : (lent_of roms ram s ≡ 0 → ⊥) → course roms ram s first second ≡ declined (lent_of roms ram s) s
+  unfolding course admission pick
+  lent-declines z = simp (ne_eqb (lent_of roms ram s) 0 z)
 
   pub admitted-stands : admission roms ram s first second ≡ 0 → lent_of roms ram s ≡ 0
   unfolding admission pick

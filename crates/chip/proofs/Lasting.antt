@@ -190,3 +190,6 @@ module _ (roms : Roms) (ram : List ℕ) (s : State) (first second : ℕ) where
       go : (b : Bool) → (course roms ram s first second).waited ≡ b → b ≡ true
       go true h = refl
       go false h = let l = some-cycles a h in absurd (omega (arith, l))
+
+-- What the step's own code needs of a course.
+pub ruleset lasts = (plan-writes, some-cycles, waits-only, moved-waits)

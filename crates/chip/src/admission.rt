@@ -1,43 +1,38 @@
 // What is looked at before a step does anything.
-ghost use Rattle.std.specs.Prelude.{◌&&◌, ◌≡◌, length};
+ghost use Rattle.std.specs.Prelude.{◌&&◌, ◌≡◌};
 ghost use Rattle.isa.specs.Numbers.{number_given};
 ghost use Rattle.chip.specs.Admission.{lent_number, sample_allowed};
 
-use isa::Refusal;
+use isa::{Refusal, Set};
 use machine::pins::Pins;
-use machine::rom::Lent;
 use machine::{State, pins};
 
-// Whether the programs' and the RAM's lengths and the state are admitted; 1, 2 or 3 if not.
-pub fn admit(lent: Lent, ram: usize, s: State) -> Result<(), Refusal>
-    ensures { number_given result ≡ lent_number lent.entry.set (length lent.entry.program.now) (length lent.entry.outside.now) ram s }
+// Whether the programs' and the RAM's lengths and the state are admitted.
+#[tactic(auto, unfolding(crate::specs::Admission::lent_number, isa::specs::Choice::pick))]
+pub fn admit(set: Set, program: usize, outside: usize, ram: usize, s: State) -> Result<(), Refusal>
+    ensures { number_given result ≡ lent_number set program outside ram s }
 {
-    let program = lent.program.len();
-    let outside = lent.outside.len();
-    let long = (program == State::PROGRAM_8048)
-        | (program == State::PROGRAM_8049)
-        | (program == State::PROGRAM_8050);
-    if !long {
+    if !matches!(
+        program,
+        State::PROGRAM_8048 | State::PROGRAM_8049 | State::PROGRAM_8050
+    ) {
         return Err(Refusal::ProgramLength);
     }
-    let second = (outside == 0) | (outside == State::PROGRAM_OUTSIDE);
-    if !second {
+    if !matches!(outside, 0 | State::PROGRAM_OUTSIDE) {
         return Err(Refusal::ProgramLength);
     }
-    let wide = (ram == State::RAM_8048) | (ram == State::RAM_8049) | (ram == State::RAM_8050);
-    if !wide {
+    if !matches!(ram, State::RAM_8048 | State::RAM_8049 | State::RAM_8050) {
         return Err(Refusal::RamLength);
     }
-    let permitted = s.is_permitted(lent.set);
-    if !permitted {
+    if !s.is_permitted(set) {
         return Err(Refusal::StateOutside);
     }
     Ok(())
 }
 
-// Whether both samples are allowed; if not, 6.
+// Whether both samples are allowed.
 pub fn samples_allowed(pins: Pins) -> bool
     ensures { result ≡ (sample_allowed pins.first && sample_allowed pins.second) }
 {
-    (pins.first < pins::LIMIT) & (pins.second < pins::LIMIT)
+    pins.first < pins::LIMIT && pins.second < pins::LIMIT
 }

@@ -1,14 +1,15 @@
 -- A run may be cut anywhere: the first part, and then what it did not use and the rest, are the run over the whole.
 -- Assumes nothing.
-use Prim.Native.Nat.{ℕ, zero, suc, ◌+◌, ◌≤◌, ◌<◌}
+use Prim.Native.Nat.{ℕ, ◌+◌, ◌≤◌}
 use native.Mathlib.Nat.{add-zero, add_assoc}
 use mathlib.Core.Bool.{Bool, true, false}
 use mathlib.Core.List.{List, [], ◌∷◌, ◌++◌, append_assoc, append-nil}
 use mathlib.Core.Path.{◌≡◌, refl, sym, ap, ◌∙◌, subst}
 use native.Mathlib.Omega.{arith}
 use lib.Dec.{eqb}
-use lib.ListN.{length, get_or, drop, length-append}
+use lib.ListN.{length, drop, length-append}
 use borrow.Author.Tests.{eqb-true, eqb-false}
+use Rattle.std.proofs.lemmas.List.{drop-append-le, get_or_append_left}
 use Rattle.isa.specs.Choice.{pick}
 use Rattle.machine.specs.Rom.{Roms}
 use Rattle.machine.specs.declared.State.{State}
@@ -69,16 +70,6 @@ onward roms xs m =
     same = rw (add-zero, add-zero, append-nil)
 
 -- ---- the samples
-at-front : (xs ys : List ℕ) (i : ℕ) → i < length xs → get_or (xs ++ ys) i 0 ≡ get_or xs i 0
-at-front [] ys i l = absurd (omega arith)
-at-front (x ∷ xs) ys zero l = refl
-at-front (x ∷ xs) ys (suc i) l = at-front xs ys i (omega arith)
-
-drop-front : (xs ys : List ℕ) (i : ℕ) → i ≤ length xs → drop i (xs ++ ys) ≡ drop i xs ++ ys
-drop-front xs ys zero l = refl
-drop-front [] ys (suc i) l = absurd (omega arith)
-drop-front (x ∷ xs) ys (suc i) l = drop-front xs ys i (omega arith)
-
 longer-length : (xs ys : List ℕ) → length xs ≤ length (xs ++ ys)
 longer-length xs ys = rw length-append (omega arith)
 
@@ -87,8 +78,8 @@ reads_more xs ys none d = tt
 reads_more xs ys (more {k = k} first second h a) d =
     let l = longer-length xs ys in (
       reads_more xs ys h d.0,
-      d.1 ∙ sym (at-front xs ys k.used (omega (arith, d.3))),
-      d.2 ∙ sym (at-front xs ys (k.used + 1) (omega (arith, d.3))),
+      d.1 ∙ sym (get_or_append_left xs ys 0 k.used (omega (arith, d.3))),
+      d.2 ∙ sym (get_or_append_left xs ys 0 (k.used + 1) (omega (arith, d.3))),
       omega (arith, d.3, l),
     )
 
@@ -119,7 +110,7 @@ module _ (roms : Roms) (ram : List ℕ) (s : State) (xs ys : List ℕ) where
       let first : part ≡ ended h.end (run_over roms xs (begun ram s)).ran.number = run-over roms ram s xs z ∙ h.is in
       let all : whole ≡ run_over roms (drop h.end.used xs ++ ys) h.end =
       run-over roms ram s (xs ++ ys) z ∙ over-through (xs ++ ys) h.steps (reads_more xs ys h.steps h.reads)
-      ∙ ap (λ (l : List ℕ). run_over roms l h.end) (drop-front xs ys h.end.used h.enough)
+      ∙ ap (λ (l : List ℕ). run_over roms l h.end) (drop-append-le h.end.used xs ys h.enough)
       in
       let then : run_of roms h.end.ram h.end.state (drop h.end.used xs ++ ys) ≡ run_over roms (drop h.end.used xs ++ ys) (begun h.end.ram h.end.state) =
       run-over roms h.end.ram h.end.state (drop h.end.used xs ++ ys) (still-lent h.steps z)

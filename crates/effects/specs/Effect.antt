@@ -28,18 +28,18 @@ pub record Effect : Type 0 where
   pub fresh : Bool
 
 -- The code writes RAM in place, and who wants the event asks for it apart: so what it answers is the rest.
-pub record Answered : Type 0 where
+pub record EffectAnswer : Type 0 where
   pub number : ℕ
   pub state : State
   pub fresh : Bool
 
-abbrev pub answer_of : Effect → Answered
+abbrev pub answer_of : Effect → EffectAnswer
 answer_of e = record { number = e.number; state = e.state; fresh = e.fresh }
 
 -- The code's own answers: of an instruction that is carried out; and of one that may be refused, on the state s that the step got.
-abbrev pub done_as : code.Effect → Answered
+abbrev pub done_as : code.Effect → EffectAnswer
 done_as e = record { number = 0; state = e.state; fresh = e.fresh }
 
-abbrev pub effect_as : State → Result code.Effect Refusal → Answered
+abbrev pub effect_as : State → Result code.Effect Refusal → EffectAnswer
 effect_as s (Ok e) = done_as e
 effect_as s (Err r) = record { number = number_of r; state = s; fresh = false }

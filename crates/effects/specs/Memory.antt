@@ -5,7 +5,7 @@ use Rattle.isa.specs.Reading.{byte_at}
 use Rattle.isa.specs.declared.Cell.{Cell}
 use Rattle.isa.specs.declared.Cell.TheVariants.{Register, Indirect}
 use Rattle.isa.specs.declared.Source.{Source}
-use Rattle.isa.specs.declared.Source.TheVariants.{FromRegister, FromIndirect, Immediate}
+use Rattle.isa.specs.declared.Source.TheVariants.{FromCell, Immediate}
 use Rattle.machine.specs.Psw.{bit_bs}
 
 -- (A code holds r from 0 to 7; % 8 makes the definition total.)
@@ -22,6 +22,5 @@ place_of (Indirect r) ram psw = indirect_at ram psw r
 
 -- What Rr, @Rr and #data give.
 abbrev pub source_of : Source → List ℕ → ℕ → ℕ
-source_of (FromRegister r) ram psw = byte_at ram (register_at psw r)
-source_of (FromIndirect r) ram psw = byte_at ram (indirect_at ram psw r)
+source_of (FromCell c) ram psw = byte_at ram (place_of c ram psw)
 source_of (Immediate d) ram psw = d

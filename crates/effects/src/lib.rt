@@ -11,7 +11,7 @@ pub mod memory; // registers and RAM
 pub mod moves; // XCH, XCHD, INC and DEC of a cell
 pub mod ports; // ports, BUS, the expander
 
-// What is seen from outside, besides the latches.
+// What is seen from outside, besides the latches. (Values by place, as C gets them: address or port, then data or digit.)
 #[derive(Clone, Copy)]
 pub enum Event {
     Quiet,
@@ -23,15 +23,16 @@ pub enum Event {
     ExpanderMove(DigitMove, u8, u8),
 }
 
-// What an instruction does besides writing to RAM, which it does in place. Its event is asked for apart, by a single step alone. The flag
-// comes first: the order matters for speed (docs/PERFORMANCE.md).
+// What an instruction does besides writing to RAM, which it does in place. Its event is asked for apart, by a single step alone.
 #[derive(Clone, Copy)]
 pub struct Effect {
-    // the instruction has started the counter, so that its own cycle isn't counted
+    // the instruction has started the counter, so that its own cycle isn't counted (a flag of its own: the state is there either way)
     pub fresh: bool,
     pub state: State,
 }
 
+// Here and in all that follows an answer and the RAM it leaves are two clauses over one definition: one says what comes back, the other
+// what is written in place.
 pub fn quiet_effect(s: State) -> Effect
     ensures { done_as result ≡ answer_of (quiet s) }
 {
@@ -51,6 +52,7 @@ pub fn stored_effect(s: State, ram: &mut [u8], at: usize, v: u8) -> Effect
     quiet_effect(s)
 }
 
+// (Beside `quiet_effect`, and no flag as a parameter: docs/STATEMENTS.md names both.)
 pub fn started_effect(s: State) -> Effect
     ensures { done_as result ≡ answer_of (started s) }
 {

@@ -1,11 +1,13 @@
-// Registers and RAM. Every chip has 64 bytes at least, so that each cell an instruction names is there and no test is needed.
-// (A struct of the slice and that fact would prove too, but whoever writes would owe `ram.new.bytes.ghost_name ≡ ram.old.bytes.ghost_name`.)
+// Registers and RAM. Every chip has 64 bytes at least, so that each cell an instruction names is there and no test is needed: here and in
+// flow, execute, chip and runs each function that reads or writes RAM asks for those 64, or for the one cell it is given. A struct of the
+// slice and that fact is no plainer: whoever writes would have to say besides that the struct still lends the same slice.
 ghost use Rattle.std.specs.Prelude.{◌≡◌, ◌≤◌, ◌<◌, length, set};
 ghost use Rattle.isa.specs.Reading.{byte_at};
 ghost use Rattle.effects.specs.Memory.{register_at, indirect_at, place_of, source_of};
 
 use isa::{Cell, Source};
 
+// One cell. (`cell` and `store` are for the crates above: docs/STATEMENTS.md names both.)
 pub fn cell(ram: &[u8], i: usize) -> u8
     requires { i < length ram.now }
     ensures { result ≡ byte_at ram.now i }
@@ -53,8 +55,7 @@ pub fn source(from: Source, ram: &[u8], psw: u8) -> u8
     ensures { result ≡ source_of from ram.now psw }
 {
     match from {
-        Source::FromRegister(r) => cell(ram, register(psw, r)),
-        Source::FromIndirect(r) => cell(ram, indirect(ram, psw, r)),
+        Source::FromCell(c) => cell(ram, place(c, ram, psw)),
         Source::Immediate(d) => d,
     }
 }

@@ -10,11 +10,10 @@ use machine::{Ports, State, pins};
 pub fn read_pins(l: Latch, s: State, second: u32) -> State
     ensures { result ≡ input l s second }
 {
-    let q = s.ports;
     match l {
-        Latch::Bus => s.with_a((second % 256) as u8),
-        Latch::Port(1) => s.with_a(q.p1 & ((second / pins::P1 % 256) as u8)),
-        Latch::Port(_) => s.with_a(q.p2 & ((second / pins::P2 % 256) as u8)),
+        Latch::Bus => s.with_a(pins::bus(second)),
+        Latch::Port(1) => s.with_a(s.ports.p1 & pins::p1(second)),
+        Latch::Port(_) => s.with_a(s.ports.p2 & pins::p2(second)),
     }
 }
 
@@ -22,11 +21,10 @@ pub fn read_pins(l: Latch, s: State, second: u32) -> State
 pub fn latch_value(l: Latch, s: State) -> u8
     ensures { result ≡ latch_of l s }
 {
-    let q = s.ports;
     match l {
-        Latch::Bus => q.bus,
-        Latch::Port(1) => q.p1,
-        Latch::Port(_) => q.p2,
+        Latch::Bus => s.ports.bus,
+        Latch::Port(1) => s.ports.p1,
+        Latch::Port(_) => s.ports.p2,
     }
 }
 
@@ -34,15 +32,14 @@ pub fn latch_value(l: Latch, s: State) -> u8
 pub fn write_latch(l: Latch, s: State, v: u8) -> State
     ensures { result ≡ output l s v }
 {
-    let q = s.ports;
     match l {
         Latch::Bus => s.with_ports(Ports {
             bus: v,
             driven: true,
-            ..q
+            ..s.ports
         }),
-        Latch::Port(1) => s.with_ports(Ports { p1: v, ..q }),
-        Latch::Port(_) => s.with_ports(Ports { p2: v, ..q }),
+        Latch::Port(1) => s.with_ports(Ports { p1: v, ..s.ports }),
+        Latch::Port(_) => s.with_ports(Ports { p2: v, ..s.ports }),
     }
 }
 
@@ -60,9 +57,7 @@ pub fn move_digit(op: DigitMove, s: State, second: u32) -> State
     ensures { result ≡ digit_moved op s second }
 {
     match op {
-        DigitMove::MovdRead => s.with_a((second / pins::P2 % 256 % 16) as u8),
-        DigitMove::MovdWrite => s,
-        DigitMove::Orld => s,
-        DigitMove::Anld => s,
+        DigitMove::MovdRead => s.with_a(pins::p2(second) % 16),
+        DigitMove::MovdWrite | DigitMove::Orld | DigitMove::Anld => s,
     }
 }

@@ -1,41 +1,32 @@
 #![tactic(auto)]
 // What each of the 98 instructions does to the state, to RAM and to the world outside.
 ghost use Rattle.std.specs.Prelude.{◌≡◌, ◌≤◌, length};
-ghost use Rattle.machine.specs.Pins.{ea_pin, is_high};
-ghost use Rattle.machine.specs.Rom.{visible};
+ghost use Rattle.machine.specs.Rom.{visible_in};
 ghost use Rattle.machine.specs.State.{with_pc};
 ghost use Rattle.effects.specs.Effect.{answer_of, effect_as, written};
-ghost use Rattle.execute.specs.Execute.{executed, with_t};
+ghost use Rattle.execute.specs.Execute.{executed};
 
 use effects::{Effect, memory, moves, ports, quiet_effect, stored_effect};
 use flow::{control, jumps, stack};
 use isa::{Instruction, Refusal, pages};
-use machine::pins::Pins;
-use machine::rom::Lent;
-use machine::{Count, Mode, State, pins};
-
-// MOV T,A
-fn with_t(s: State, t: u8) -> State
-    ensures { result ≡ with_t s t }
-{
-    s.with_count(Count { t, ..s.count() })
-}
+use machine::pins::{self, Pins};
+use machine::rom::Seen;
+use machine::{Mode, State};
 
 // The effect of an instruction whose first byte is at `base`, on a state whose PC is past it already.
 #[tactic(auto, unfolding(crate::specs::Execute::executed, effects::specs::Effect::written, isa::specs::Choice::pick))]
 pub fn execute(
     i: Instruction,
-    lent: Lent,
+    seen: Seen,
     ram: &mut [u8],
     s: State,
     base: u16,
     pins: Pins,
 ) -> Result<Effect, Refusal>
     requires { 64 ≤ length ram.old }
-    ensures answer { effect_as (with_pc s base) result ≡ answer_of (executed i (visible lent.entry.program.now lent.entry.outside.now (is_high ea_pin pins.first)) ram.old s base pins.first pins.second) }
-    ensures memory { ram.new ≡ written ram.old (executed i (visible lent.entry.program.now lent.entry.outside.now (is_high ea_pin pins.first)) ram.old s base pins.first pins.second).write }
+    ensures answer { effect_as (with_pc s base) result ≡ answer_of (executed i (visible_in seen.entry) ram.old s base pins.first pins.second) }
+    ensures memory { ram.new ≡ written ram.old (executed i (visible_in seen.entry) ram.old s base pins.first pins.second).write }
 {
-    let ea = pins.first / pins::EA % 2 == 1;
     match i {
         Instruction::Alu(op, from) => Ok(quiet_effect(accumulator::operate(
             op,
@@ -46,13 +37,7 @@ pub fn execute(
         Instruction::Djnz(r, d) => Ok(jumps::djnz(s, ram, memory::register(s.psw, r), base, d)),
         Instruction::Branch(c, d) => Ok(quiet_effect(jumps::branch(c, s, base, d, pins.first))),
         Instruction::Jmp(a) => Ok(quiet_effect(s.with_pc(jumps::far_target(s, a)))),
-        Instruction::Jmpp => jumps::jump_by_table(
-            lent,
-            ea,
-            s,
-            base,
-            pages::jmpp_address(base, s.a),
-        ),
+        Instruction::Jmpp => jumps::jump_by_table(seen, s, base, pages::jmpp_address(base, s.a)),
         Instruction::Control(op) => Ok(control::switch(op, s)),
         Instruction::MovA(from) => Ok(quiet_effect(s.with_a(memory::source(
             from,
@@ -69,10 +54,10 @@ pub fn execute(
         },
         Instruction::MovAPsw => Ok(quiet_effect(s.with_a(s.psw))),
         Instruction::MovPswA => Ok(quiet_effect(s.with_psw(s.a / 16 * 16 + 8 + s.a % 8))),
-        Instruction::Movp => jumps::load_table(lent, ea, s, pages::movp_address(base, s.a)),
-        Instruction::Movp3 => jumps::load_table(lent, ea, s, pages::movp3_address(base, s.a)),
-        Instruction::MovxRead(_r) => Ok(quiet_effect(s.with_a((pins.second % 256) as u8))),
-        Instruction::MovxWrite(_r) => Ok(quiet_effect(s)),
+        Instruction::Movp => jumps::load_table(seen, s, pages::movp_address(base, s.a)),
+        Instruction::Movp3 => jumps::load_table(seen, s, pages::movp3_address(base, s.a)),
+        Instruction::MovxRead(_) => Ok(quiet_effect(s.with_a(pins::bus(pins.second)))),
+        Instruction::MovxWrite(_) => Ok(quiet_effect(s)),
         Instruction::Xch(c) => {
             let at = memory::place(c, &ram[..], s.psw);
             Ok(moves::exchange(s, ram, at))
@@ -90,7 +75,7 @@ pub fn execute(
         ))),
         Instruction::In(l) => Ok(quiet_effect(ports::read_pins(l, s, pins.second))),
         Instruction::Outl(l) => Ok(quiet_effect(ports::write_latch(l, s, s.a))),
-        Instruction::Expander(op, _p) => Ok(quiet_effect(ports::move_digit(op, s, pins.second))),
+        Instruction::Expander(op, _) => Ok(quiet_effect(ports::move_digit(op, s, pins.second))),
         Instruction::Dec(r) => Ok(moves::raise(s, ram, memory::register(s.psw, r), 255)),
         Instruction::Inc(c) => {
             let at = memory::place(c, &ram[..], s.psw);
@@ -100,7 +85,7 @@ pub fn execute(
         Instruction::Ret => Ok(quiet_effect(stack::ret(s, &ram[..]))),
         Instruction::Retr => Ok(quiet_effect(stack::retr(s, &ram[..]))),
         Instruction::MovAT => Ok(quiet_effect(s.with_a(s.t))),
-        Instruction::MovTA => Ok(quiet_effect(with_t(s, s.a))),
+        Instruction::MovTA => Ok(quiet_effect(State { t: s.a, ..s })),
         Instruction::Nop => Ok(quiet_effect(s)),
         Instruction::Halt => Ok(quiet_effect(control::stand_by(s, Mode::HaltMode, pins.first))),
         Instruction::Stop => Ok(quiet_effect(control::stand_by(s, Mode::StopMode, pins.first))),

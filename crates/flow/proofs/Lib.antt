@@ -1,2 +1,1 @@
 pub mod Entering
-mod Tables

@@ -5,27 +5,16 @@ ghost use Rattle.flow.specs.Control.{with_f1, with_dbf, cleared, complemented, e
 
 use effects::Effect;
 use isa::{Flag, Switch};
-use machine::{Count, Counting, Interrupts, Mode, State, pins};
-
-fn with_f1(s: State, f1: bool) -> State
-    ensures { result ≡ with_f1 s f1 }
-{
-    s.with_flags(f1, s.dbf, s.clock)
-}
-
-fn with_dbf(s: State, dbf: bool) -> State
-    ensures { result ≡ with_dbf s dbf }
-{
-    s.with_flags(s.f1, dbf, s.clock)
-}
+use machine::pins::{Pin, is_low};
+use machine::{Counting, Interrupts, Mode, State, psw};
 
 pub fn clear(f: Flag, s: State) -> State
     ensures { result ≡ cleared f s }
 {
     match f {
-        Flag::FlagC => s.with_psw(s.psw % 128),
-        Flag::FlagF0 => s.with_psw(s.psw / 64 * 64 + s.psw % 32),
-        Flag::FlagF1 => with_f1(s, false),
+        Flag::FlagC => s.with_psw(psw::with_c(s.psw, false)),
+        Flag::FlagF0 => s.with_psw(psw::with_f0(s.psw, false)),
+        Flag::FlagF1 => State { f1: false, ..s },
     }
 }
 
@@ -33,9 +22,9 @@ pub fn complement(f: Flag, s: State) -> State
     ensures { result ≡ complemented f s }
 {
     match f {
-        Flag::FlagC => s.with_psw(s.psw % 128 + (1 - s.psw / 128) * 128),
-        Flag::FlagF0 => s.with_psw(s.psw / 64 * 64 + (1 - s.psw / 32 % 2) * 32 + s.psw % 32),
-        Flag::FlagF1 => with_f1(s, !s.f1),
+        Flag::FlagC => s.with_psw(psw::with_c(s.psw, !psw::c(s.psw))),
+        Flag::FlagF0 => s.with_psw(psw::with_f0(s.psw, !psw::f0(s.psw))),
+        Flag::FlagF1 => State { f1: !s.f1, ..s },
     }
 }
 
@@ -51,14 +40,14 @@ fn enable_external(on: bool, s: State) -> State
 fn enable_tcnti(on: bool, s: State) -> State
     ensures { result ≡ tcnti_enabled on s }
 {
-    let t = s.with_count(Count {
+    State {
         request: s.request & on,
-        ..s.count()
-    });
-    t.with_interrupts(Interrupts {
-        tcnti: on,
-        ..s.interrupts
-    })
+        interrupts: Interrupts {
+            tcnti: on,
+            ..s.interrupts
+        },
+        ..s
+    }
 }
 
 // HALT and STOP: with INT low in the first sample the mode isn't entered.
@@ -66,11 +55,11 @@ fn enable_tcnti(on: bool, s: State) -> State
 pub fn stand_by(s: State, mode: Mode, first: u32) -> State
     ensures { result ≡ standing_by s mode first }
 {
-    let low = first / pins::INT % 2 == 0;
-    if low {
-        return s;
+    if is_low(Pin::Int, first) {
+        s
+    } else {
+        s.with_mode(mode)
     }
-    s.with_mode(mode)
 }
 
 pub fn switch(op: Switch, s: State) -> Effect
@@ -79,15 +68,21 @@ pub fn switch(op: Switch, s: State) -> Effect
     match op {
         Switch::EnI => effects::quiet_effect(enable_external(true, s)),
         Switch::DisI => effects::quiet_effect(enable_external(false, s)),
-        Switch::Ent0Clk => effects::quiet_effect(s.with_flags(s.f1, s.dbf, true)),
-        Switch::SelMb0 => effects::quiet_effect(with_dbf(s, false)),
-        Switch::SelMb1 => effects::quiet_effect(with_dbf(s, true)),
-        Switch::SelRb0 => effects::quiet_effect(s.with_psw(s.psw / 32 * 32 + s.psw % 16)),
-        Switch::SelRb1 => effects::quiet_effect(s.with_psw(s.psw / 32 * 32 + 16 + s.psw % 16)),
+        Switch::Ent0Clk => effects::quiet_effect(State { clock: true, ..s }),
+        Switch::SelMb0 => effects::quiet_effect(State { dbf: false, ..s }),
+        Switch::SelMb1 => effects::quiet_effect(State { dbf: true, ..s }),
+        Switch::SelRb0 => effects::quiet_effect(s.with_psw(psw::with_bs(s.psw, false))),
+        Switch::SelRb1 => effects::quiet_effect(s.with_psw(psw::with_bs(s.psw, true))),
         Switch::EnTcnti => effects::quiet_effect(enable_tcnti(true, s)),
         Switch::DisTcnti => effects::quiet_effect(enable_tcnti(false, s)),
-        Switch::StopTcnt => effects::quiet_effect(s.with_counting(Counting::Stopped, s.divider)),
-        Switch::StrtCnt => effects::started_effect(s.with_counting(Counting::Counter, s.divider)),
+        Switch::StopTcnt => effects::quiet_effect(State {
+            counting: Counting::Stopped,
+            ..s
+        }),
+        Switch::StrtCnt => effects::started_effect(State {
+            counting: Counting::Counter,
+            ..s
+        }),
         Switch::StrtT => effects::started_effect(s.with_counting(Counting::Timer, 0)),
     }
 }

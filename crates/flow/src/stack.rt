@@ -4,7 +4,7 @@ ghost use Rattle.effects.specs.Effect.{answer_of, done_as, written};
 ghost use Rattle.flow.specs.Stack.{high_byte, low_byte, pushed, restored, returned, sp_below};
 
 use effects::{Effect, memory};
-use machine::{Interrupts, State};
+use machine::{Interrupts, State, psw};
 
 // PC and the upper half of PSW go on the stack, and PC becomes `to`.
 #[tactic(auto, unfolding(effects::specs::Effect::written, crate::specs::Stack::pushed))]
@@ -13,11 +13,15 @@ pub fn push(s: State, ram: &mut [u8], to: u16) -> Effect
     ensures answer { done_as result ≡ answer_of (pushed s to) }
     ensures memory { ram.new ≡ written ram.old (pushed s to).write }
 {
-    let at = (8 + s.psw % 8 * 2) as usize;
+    let at = (8 + psw::sp(s.psw) * 2) as usize;
     let [low, high] = s.pc.to_le_bytes();
     memory::store(ram, at, low);
     memory::store(ram, at + 1, high % 16 + s.psw / 16 * 16);
-    effects::quiet_effect(s.with_core(s.a, to, s.psw / 8 * 8 + (s.psw % 8 + 1) % 8))
+    effects::quiet_effect(State {
+        pc: to,
+        psw: psw::with_sp(s.psw, (psw::sp(s.psw) + 1) % 8),
+        ..s
+    })
 }
 
 // What stands on top of the stack: SP counted down, PC, and PSW bits 4-7, where they stand in PSW.
@@ -34,7 +38,7 @@ fn pop(s: State, ram: &[u8]) -> Popped
     ensures pc { result.pc ≡ low_byte s ram.now + high_byte s ram.now % 16 * 256 }
     ensures upper { result.upper ≡ high_byte s ram.now / 16 * 16 }
 {
-    let sp = (s.psw % 8 + 7) % 8;
+    let sp = (psw::sp(s.psw) + 7) % 8;
     let at = (8 + sp * 2) as usize;
     let low = memory::cell(ram, at);
     let high = memory::cell(ram, at + 1);
@@ -50,7 +54,11 @@ pub fn ret(s: State, ram: &[u8]) -> State
     ensures { result ≡ returned s ram.now }
 {
     let top = pop(s, ram);
-    s.with_core(s.a, top.pc, s.psw / 8 * 8 + top.sp)
+    State {
+        pc: top.pc,
+        psw: psw::with_sp(s.psw, top.sp),
+        ..s
+    }
 }
 
 pub fn retr(s: State, ram: &[u8]) -> State
@@ -58,9 +66,13 @@ pub fn retr(s: State, ram: &[u8]) -> State
     ensures { result ≡ restored s ram.now }
 {
     let top = pop(s, ram);
-    let t = s.with_core(s.a, top.pc, top.upper + s.psw / 8 % 2 * 8 + top.sp);
-    t.with_interrupts(Interrupts {
-        service: false,
-        ..s.interrupts
-    })
+    State {
+        pc: top.pc,
+        psw: top.upper + s.psw / 8 % 2 * 8 + top.sp,
+        interrupts: Interrupts {
+            service: false,
+            ..s.interrupts
+        },
+        ..s
+    }
 }

@@ -21,21 +21,21 @@ use Rattle.isa.proofs.Everywhere.{everywhere}
 abbrev pub blank : Entry
 blank = entry_as None
 
-pub nec-held : (b : ℕ) → b < 256 → get_or TABLE b blank ≡ entry_of Nec b
+pub nec_held : (b : ℕ) → b < 256 → get_or TABLE b blank ≡ entry_of Nec b
 unfolding entry_of kind_of pick
-nec-held b h = everywhere (λ k. get_or TABLE k blank) (entry_of Nec) 256 refl b h
+nec_held b h = everywhere (λ k. get_or TABLE k blank) (entry_of Nec) 256 refl b h
 
 -- A set leaves the codes undefined that NEC's does, and those whose kind is past the set's rows.
 abbrev pub within_set : Set → Entry → Entry
 within_set set e = pick (eqb e.bytes 0) blank (pick (ltb (length (rows_of set)) e.kind) blank e)
 
-pub entry-within : (set : Set) (b : ℕ) → b < 256 → within_set set (entry_of Nec b) ≡ entry_of set b
+pub entry_within : (set : Set) (b : ℕ) → b < 256 → entry_of set b ≡ within_set set (entry_of Nec b)
 unfolding entry_of kind_of pick
-entry-within Intel b h = everywhere (λ k. within_set Intel (entry_of Nec k)) (entry_of Intel) 256 refl b h
-entry-within Nec b h = everywhere (λ k. within_set Nec (entry_of Nec k)) (entry_of Nec) 256 refl b h
+entry_within Intel b h = everywhere (entry_of Intel) (λ k. within_set Intel (entry_of Nec k)) 256 refl b h
+entry_within Nec b h = everywhere (entry_of Nec) (λ k. within_set Nec (entry_of Nec k)) 256 refl b h
 
 pub entry-held : (set : Set) (b : ℕ) → b < 256 → within_set set (get_or TABLE b blank) ≡ entry_of set b
-entry-held set b h = rw (nec-held b h) (entry-within set b h)
+entry-held set b h = rw (nec_held b h, entry_within set b h)
 
 -- A number from low to high.
 pub within-true : (low high k : ℕ) → within low high k ≡ true → (low ≤ k) × (k ≤ high)

@@ -1,5 +1,6 @@
 pub mod Choice
 pub mod Edges
+pub mod Naming
 pub mod Numbers
 pub mod Pages
 pub mod Reading

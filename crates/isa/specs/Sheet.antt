@@ -6,7 +6,7 @@ use Rattle.std.specs.Prelude.{ℕ, suc, ◌*◌, ◌/◌, ◌%◌, ◌+◌, Bool
 use Prim.Native.String.{String}
 use Rattle.isa.specs.Choice.{pick, within}
 use Rattle.isa.specs.declared.Cell.TheVariants.{Register, Indirect}
-use Rattle.isa.specs.declared.Source.TheVariants.{FromRegister, FromIndirect, Immediate}
+use Rattle.isa.specs.declared.Source.TheVariants.{FromCell, Immediate}
 use Rattle.isa.specs.declared.Operation.TheVariants.{Add, Addc, Anl, Orl, Xrl}
 use Rattle.isa.specs.declared.Unary.TheVariants.{CplA, ClrA, DaA, DecA, IncA, RlA, RlcA, RrA, RrcA, SwapA}
 use Rattle.isa.specs.declared.Condition.TheVariants.{Jb, Jc, Jf0, Jf1, Jnc, Jni, Jnt0, Jnt1, Jnz, Jtf, Jt0, Jt1, Jz}
@@ -46,30 +46,30 @@ abbrev pub rows : List Row
 rows =
     -- Accumulator
     row 0b0000_0011 none 2 2 (λ n d. Alu Add (Immediate d)) "ADD A,#d" ∷
-    row 0b0110_1000 (low 0 7) 1 1 (λ n d. Alu Add (FromRegister n)) "ADD A,Rr" ∷
-    row 0b0110_0000 (low 0 1) 1 1 (λ n d. Alu Add (FromIndirect n)) "ADD A,@Rr" ∷
+    row 0b0110_1000 (low 0 7) 1 1 (λ n d. Alu Add (FromCell (Register n))) "ADD A,Rr" ∷
+    row 0b0110_0000 (low 0 1) 1 1 (λ n d. Alu Add (FromCell (Indirect n))) "ADD A,@Rr" ∷
     row 0b0001_0011 none 2 2 (λ n d. Alu Addc (Immediate d)) "ADDC A,#d" ∷
-    row 0b0111_1000 (low 0 7) 1 1 (λ n d. Alu Addc (FromRegister n)) "ADDC A,Rr" ∷
-    row 0b0111_0000 (low 0 1) 1 1 (λ n d. Alu Addc (FromIndirect n)) "ADDC A,@Rr" ∷
+    row 0b0111_1000 (low 0 7) 1 1 (λ n d. Alu Addc (FromCell (Register n))) "ADDC A,Rr" ∷
+    row 0b0111_0000 (low 0 1) 1 1 (λ n d. Alu Addc (FromCell (Indirect n))) "ADDC A,@Rr" ∷
     row 0b0101_0011 none 2 2 (λ n d. Alu Anl (Immediate d)) "ANL A,#d" ∷
-    row 0b0101_1000 (low 0 7) 1 1 (λ n d. Alu Anl (FromRegister n)) "ANL A,Rr" ∷
-    row 0b0101_0000 (low 0 1) 1 1 (λ n d. Alu Anl (FromIndirect n)) "ANL A,@Rr" ∷
+    row 0b0101_1000 (low 0 7) 1 1 (λ n d. Alu Anl (FromCell (Register n))) "ANL A,Rr" ∷
+    row 0b0101_0000 (low 0 1) 1 1 (λ n d. Alu Anl (FromCell (Indirect n))) "ANL A,@Rr" ∷
     row 0b0011_0111 none 1 1 (λ n d. Accumulator CplA) "CPL A" ∷
     row 0b0010_0111 none 1 1 (λ n d. Accumulator ClrA) "CLR A" ∷
     row 0b0101_0111 none 1 1 (λ n d. Accumulator DaA) "DA A" ∷
     row 0b0000_0111 none 1 1 (λ n d. Accumulator DecA) "DEC A" ∷
     row 0b0001_0111 none 1 1 (λ n d. Accumulator IncA) "INC A" ∷
     row 0b0100_0011 none 2 2 (λ n d. Alu Orl (Immediate d)) "ORL A,#d" ∷
-    row 0b0100_1000 (low 0 7) 1 1 (λ n d. Alu Orl (FromRegister n)) "ORL A,Rr" ∷
-    row 0b0100_0000 (low 0 1) 1 1 (λ n d. Alu Orl (FromIndirect n)) "ORL A,@Rr" ∷
+    row 0b0100_1000 (low 0 7) 1 1 (λ n d. Alu Orl (FromCell (Register n))) "ORL A,Rr" ∷
+    row 0b0100_0000 (low 0 1) 1 1 (λ n d. Alu Orl (FromCell (Indirect n))) "ORL A,@Rr" ∷
     row 0b1110_0111 none 1 1 (λ n d. Accumulator RlA) "RL A" ∷
     row 0b1111_0111 none 1 1 (λ n d. Accumulator RlcA) "RLC A" ∷
     row 0b0111_0111 none 1 1 (λ n d. Accumulator RrA) "RR A" ∷
     row 0b0110_0111 none 1 1 (λ n d. Accumulator RrcA) "RRC A" ∷
     row 0b0100_0111 none 1 1 (λ n d. Accumulator SwapA) "SWAP A" ∷
     row 0b1101_0011 none 2 2 (λ n d. Alu Xrl (Immediate d)) "XRL A,#d" ∷
-    row 0b1101_1000 (low 0 7) 1 1 (λ n d. Alu Xrl (FromRegister n)) "XRL A,Rr" ∷
-    row 0b1101_0000 (low 0 1) 1 1 (λ n d. Alu Xrl (FromIndirect n)) "XRL A,@Rr" ∷
+    row 0b1101_1000 (low 0 7) 1 1 (λ n d. Alu Xrl (FromCell (Register n))) "XRL A,Rr" ∷
+    row 0b1101_0000 (low 0 1) 1 1 (λ n d. Alu Xrl (FromCell (Indirect n))) "XRL A,@Rr" ∷
     -- Branch
     row 0b1110_1000 (low 0 7) 2 2 (λ n d. Djnz n d) "DJNZ Rr,t" ∷
     row 0b0001_0010 high 2 2 (λ n d. Branch (Jb n) d) "JBb t" ∷
@@ -97,8 +97,8 @@ rows =
     row 0b1101_0101 none 1 1 (λ n d. Control SelRb1) "SEL RB1" ∷
     -- Data moves
     row 0b0010_0011 none 2 2 (λ n d. MovA (Immediate d)) "MOV A,#d" ∷
-    row 0b1111_1000 (low 0 7) 1 1 (λ n d. MovA (FromRegister n)) "MOV A,Rr" ∷
-    row 0b1111_0000 (low 0 1) 1 1 (λ n d. MovA (FromIndirect n)) "MOV A,@Rr" ∷
+    row 0b1111_1000 (low 0 7) 1 1 (λ n d. MovA (FromCell (Register n))) "MOV A,Rr" ∷
+    row 0b1111_0000 (low 0 1) 1 1 (λ n d. MovA (FromCell (Indirect n))) "MOV A,@Rr" ∷
     row 0b1100_0111 none 1 1 (λ n d. MovAPsw) "MOV A,PSW" ∷
     row 0b1011_1000 (low 0 7) 2 2 (λ n d. MovData (Register n) d) "MOV Rr,#d" ∷
     row 0b1010_1000 (low 0 7) 1 1 (λ n d. Mov (Register n)) "MOV Rr,A" ∷

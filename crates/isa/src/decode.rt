@@ -10,12 +10,12 @@ use crate::{
 fn address(code: u8, d: u8) -> u16
     ensures { result ≡ code / 32 * 256 + d }
 {
-    (code / 32) as u16 * 256 + d as u16
+    u16::from_be_bytes([code / 32, d])
 }
 
 // The instruction of row `kind` of specs/Sheet.antt, an arm a row, for the code `code` and the second byte `d`.
 // An arm takes its operand itself: taken before the match, the operands would cost time in every step. The row is a number and no enum,
-// since make_of holds of every number: of one past the last row too.
+// since the clause holds of every number: of one past the last row too.
 #[tactic(auto, using(crate::proofs::Arms::arm))]
 pub fn made(kind: u8, code: u8, d: u8) -> Instruction
     ensures { result ≡ make_of kind code d }
@@ -23,30 +23,30 @@ pub fn made(kind: u8, code: u8, d: u8) -> Instruction
     match kind {
         // Accumulator
         1 => Instruction::Alu(Operation::Add, Source::Immediate(d)),
-        2 => Instruction::Alu(Operation::Add, Source::FromRegister(code % 8)),
-        3 => Instruction::Alu(Operation::Add, Source::FromIndirect(code % 8)),
+        2 => Instruction::Alu(Operation::Add, Source::FromCell(Cell::Register(code % 8))),
+        3 => Instruction::Alu(Operation::Add, Source::FromCell(Cell::Indirect(code % 8))),
         4 => Instruction::Alu(Operation::Addc, Source::Immediate(d)),
-        5 => Instruction::Alu(Operation::Addc, Source::FromRegister(code % 8)),
-        6 => Instruction::Alu(Operation::Addc, Source::FromIndirect(code % 8)),
+        5 => Instruction::Alu(Operation::Addc, Source::FromCell(Cell::Register(code % 8))),
+        6 => Instruction::Alu(Operation::Addc, Source::FromCell(Cell::Indirect(code % 8))),
         7 => Instruction::Alu(Operation::Anl, Source::Immediate(d)),
-        8 => Instruction::Alu(Operation::Anl, Source::FromRegister(code % 8)),
-        9 => Instruction::Alu(Operation::Anl, Source::FromIndirect(code % 8)),
+        8 => Instruction::Alu(Operation::Anl, Source::FromCell(Cell::Register(code % 8))),
+        9 => Instruction::Alu(Operation::Anl, Source::FromCell(Cell::Indirect(code % 8))),
         10 => Instruction::Accumulator(Unary::CplA),
         11 => Instruction::Accumulator(Unary::ClrA),
         12 => Instruction::Accumulator(Unary::DaA),
         13 => Instruction::Accumulator(Unary::DecA),
         14 => Instruction::Accumulator(Unary::IncA),
         15 => Instruction::Alu(Operation::Orl, Source::Immediate(d)),
-        16 => Instruction::Alu(Operation::Orl, Source::FromRegister(code % 8)),
-        17 => Instruction::Alu(Operation::Orl, Source::FromIndirect(code % 8)),
+        16 => Instruction::Alu(Operation::Orl, Source::FromCell(Cell::Register(code % 8))),
+        17 => Instruction::Alu(Operation::Orl, Source::FromCell(Cell::Indirect(code % 8))),
         18 => Instruction::Accumulator(Unary::RlA),
         19 => Instruction::Accumulator(Unary::RlcA),
         20 => Instruction::Accumulator(Unary::RrA),
         21 => Instruction::Accumulator(Unary::RrcA),
         22 => Instruction::Accumulator(Unary::SwapA),
         23 => Instruction::Alu(Operation::Xrl, Source::Immediate(d)),
-        24 => Instruction::Alu(Operation::Xrl, Source::FromRegister(code % 8)),
-        25 => Instruction::Alu(Operation::Xrl, Source::FromIndirect(code % 8)),
+        24 => Instruction::Alu(Operation::Xrl, Source::FromCell(Cell::Register(code % 8))),
+        25 => Instruction::Alu(Operation::Xrl, Source::FromCell(Cell::Indirect(code % 8))),
         // Branch
         26 => Instruction::Djnz(code % 8, d),
         27 => Instruction::Branch(Condition::Jb(code / 32), d),
@@ -74,8 +74,8 @@ pub fn made(kind: u8, code: u8, d: u8) -> Instruction
         48 => Instruction::Control(Switch::SelRb1),
         // Data moves
         49 => Instruction::MovA(Source::Immediate(d)),
-        50 => Instruction::MovA(Source::FromRegister(code % 8)),
-        51 => Instruction::MovA(Source::FromIndirect(code % 8)),
+        50 => Instruction::MovA(Source::FromCell(Cell::Register(code % 8))),
+        51 => Instruction::MovA(Source::FromCell(Cell::Indirect(code % 8))),
         52 => Instruction::MovAPsw,
         53 => Instruction::MovData(Cell::Register(code % 8), d),
         54 => Instruction::Mov(Cell::Register(code % 8)),

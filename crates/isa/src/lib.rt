@@ -1,8 +1,12 @@
 #![tactic(auto)]
 // The instruction sets of the MCS-48 family: Intel's 96 instructions and NEC's 98, the table of the 256 codes, and the reader.
 ghost use Rattle.std.specs.Prelude.{◌≡◌};
+ghost use Rattle.isa.specs.Naming.{named_as, set_of};
 ghost use Rattle.isa.specs.Numbers.{number_of};
 ghost use Rattle.isa.specs.Reading.{decoded_at, next_pc, read_as, read_of, under};
+
+use std::error::Error;
+use std::fmt;
 
 pub mod decode; // from a row's number and the bytes to the instruction
 pub mod pages; // the 256-byte pages of jumps and tables
@@ -11,8 +15,9 @@ pub mod table; // length, cycles and kind of each code
 // The longest program that there is.
 pub const PROGRAM_LIMIT: usize = 4096;
 
-// Why a call is refused, in the whole product, with its number in document 01's table; specs/Numbers.antt has the same.
-#[derive(Clone, Copy)]
+// Why a call is refused, in the whole product, with its number: document 01's, and 25 for a set that there is not; specs/Numbers.antt has
+// the same.
+#[derive(Clone, Copy, Debug, PartialEq, Eq)]
 pub enum Refusal {
     ProgramLength = 1,
     RamLength = 2,
@@ -32,18 +37,18 @@ pub enum Set {
     Nec,
 }
 
-// A cell of RAM: Rr of the bank in use, or @Rr, the cell whose address R0 or R1 holds.
+// A cell of RAM: Rr of the bank in use, or @Rr, the cell whose address R0 or R1 holds. (An operand is a number here and below, a port too,
+// and may be more than a code holds: of such a one `write` promises OperandTooLarge.)
 #[derive(Clone, Copy)]
 pub enum Cell {
     Register(u8),
     Indirect(u8),
 }
 
-// What an instruction takes into A: Rr, @Rr or #data. It is flat, without a Cell in it, for speed: docs/PERFORMANCE.md.
+// What an instruction takes into A: Rr, @Rr or #data.
 #[derive(Clone, Copy)]
 pub enum Source {
-    FromRegister(u8),
-    FromIndirect(u8),
+    FromCell(Cell),
     Immediate(u8),
 }
 
@@ -111,13 +116,13 @@ pub enum Join {
     OrlLatch,
 }
 
-// The moves of a digit to and from the expander's ports P4 to P7: MOVD A,Pp and MOVD Pp,A, ORLD, ANLD.
+// The moves of a digit to and from the expander's ports P4 to P7: MOVD A,Pp and MOVD Pp,A, ORLD, ANLD, each with its event's number.
 #[derive(Clone, Copy)]
 pub enum DigitMove {
-    MovdRead,
-    MovdWrite,
-    Orld,
-    Anld,
+    MovdRead = 3,
+    MovdWrite = 4,
+    Orld = 5,
+    Anld = 6,
 }
 
 // What takes no operand and sets something in the machine.
@@ -194,11 +199,37 @@ pub struct Decoded {
     pub bytes: u8,
 }
 
-// The number of a refusal in document 01's table.
-pub fn number(r: Refusal) -> u8
-    ensures { result ≡ number_of r }
-{
-    r as u8
+impl fmt::Display for Refusal {
+    fn fmt<W: fmt::Write>(&self, f: &mut fmt::Formatter<W>) -> fmt::Result {
+        write!(f, "refused {}", u8::from(*self))
+    }
+}
+
+impl Error for Refusal {}
+
+// The number of a refusal.
+impl From<Refusal> for u8 {
+    ghost from_gives = { λ r number. number ≡ number_of r };
+
+    fn from(r: Refusal) -> u8 {
+        r as u8
+    }
+}
+
+// A caller in C names a set by a number.
+impl TryFrom<u32> for Set {
+    type Error = Refusal;
+
+    ghost try_from_gives = { λ name r. named_as r ≡ set_of name };
+
+    #[tactic(auto, unfolding(crate::specs::Naming::set_of, crate::specs::Choice::pick))]
+    fn try_from(name: u32) -> Result<Self, Refusal> {
+        match name {
+            0 => Ok(Set::Intel),
+            1 => Ok(Set::Nec),
+            _ => Err(Refusal::SetUnknown),
+        }
+    }
 }
 
 // The PC after `pc`: the low 11 bits count and wrap, bit 11 stays.
@@ -214,8 +245,7 @@ fn decoded_at(set: Set, program: &[u8], pc: u16, code: u8) -> Result<Decoded, Re
     ensures { read_as result ≡ decoded_at (under set program.now) pc code }
 {
     let entry = table::entry_of(set, code).ok_or(Refusal::UndefinedCode)?;
-    let alone = entry.bytes == 1;
-    if alone {
+    if entry.bytes == 1 {
         return Ok(Decoded {
             instruction: decode::made(entry.kind, code, 0),
             bytes: 1,
@@ -233,8 +263,7 @@ fn decoded_at(set: Set, program: &[u8], pc: u16, code: u8) -> Result<Decoded, Re
 pub fn read(set: Set, program: &[u8], address: usize) -> Result<Decoded, Refusal>
     ensures { read_as result ≡ read_of (under set program.now) address }
 {
-    let long = PROGRAM_LIMIT < program.len();
-    if long {
+    if PROGRAM_LIMIT < program.len() {
         return Err(Refusal::ProgramLength);
     }
     let code = *program.get(address).ok_or(Refusal::PastEnd)?;

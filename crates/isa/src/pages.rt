@@ -2,14 +2,15 @@
 ghost use Rattle.std.specs.Prelude.{◌≡◌};
 ghost use Rattle.isa.specs.Pages.{branch_target, in_page, jmpp_address, movp3_address, movp_address};
 
-// The address in the page of `of` whose low 8 bits are `d`.
+// The address in the page of `of` whose low 8 bits are `d`. (By division, as the definitions have it and the three below.)
 pub fn in_page(of: u16, d: u8) -> u16
     ensures { result ≡ in_page of d }
 {
     of / 256 * 256 + d as u16
 }
 
-// A conditional jump stays in the page of its second byte.
+// A conditional jump stays in the page of its second byte. (It and MOVP are two rules, with one page today and a wrong answer each: the
+// edits branch_page_of_first and movp_page_of_first.)
 pub fn branch_target(base: u16, d: u8) -> u16
     ensures { result ≡ branch_target base d }
 {

@@ -1,5 +1,5 @@
-// The opcode table. One entry a code: the kind is the number of the code's row in specs/Sheet.antt. An undefined code has kind 0, no cycle
-// and no byte.
+// The opcode table. One entry a code: the kind is the number of the code's row in specs/Sheet.antt, as `decode::made` takes it. An
+// undefined code has kind 0, no cycle and no byte. (An Option in each place misses the bound of a run's step: docs/PERFORMANCE.md.)
 ghost use Rattle.std.specs.Prelude.{◌≡◌, ◌<◌, length, IfSome};
 ghost use Rattle.isa.specs.Sheet.{entry_of, rows_of};
 ghost use Rattle.isa.specs.Table.{entry_as};
@@ -277,6 +277,7 @@ static TABLE: [Entry; 256] = [
 ];
 
 // A code's entry in NEC's set.
+#[tactic(auto, using(crate::proofs::Entries::nec_held))]
 fn nec_entry(code: u8) -> Entry
     ensures { result ≡ entry_of Nec code }
 {
@@ -294,18 +295,15 @@ fn last_kind(set: Set) -> u8
 }
 
 // A code's entry in a set, or None if the set leaves the code undefined.
+#[tactic(auto, using(crate::proofs::Entries::entry_within), unfolding(crate::specs::Choice::pick))]
 pub fn entry_of(set: Set, code: u8) -> Option<Entry>
     ensures entry { entry_as result ≡ entry_of set code }
     ensures defined { IfSome result (λ e. 0 < e.bytes) }
 {
     let entry = nec_entry(code);
-    let undefined = entry.bytes == 0;
-    if undefined {
-        return None;
+    if entry.bytes == 0 || last_kind(set) < entry.kind {
+        None
+    } else {
+        Some(entry)
     }
-    let beyond = last_kind(set) < entry.kind;
-    if beyond {
-        return None;
-    }
-    Some(entry)
 }

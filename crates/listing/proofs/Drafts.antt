@@ -14,12 +14,14 @@ take-take-append zero x y = refl
 take-take-append (suc n) [] y = refl
 take-take-append (suc n) (a ∷ x) y = ap (λ (l : List ℕ). a ∷ l) (take-take-append n x y)
 
+-- a line that is cut and added to is the line with both added
+pub cut_cut : (l x y : List ℕ) → cut (cut (l ++ x) ++ y) ≡ cut (l ++ (x ++ y))
+unfolding cut
+cut_cut l x y = take-take-append 32 (l ++ x) y ∙ ap (λ (t : List ℕ). take 32 t) (append_assoc l x y)
+
 -- a line with x added and then y added is the line with both added
 pub chain : {l m r x y : List ℕ} → Adds l x m → Adds m y r → Adds l (x ++ y) r
-unfolding cut
-chain {l} {m} {r} {x} {y} f g = record {
-  is = g.is ∙ ap (λ (t : List ℕ). take 32 (t ++ y)) f.is ∙ take-take-append 32 (l ++ x) y ∙ ap (λ (t : List ℕ). take 32 t) (append_assoc l x y);
-}
+chain {l} {m} {r} {x} {y} f g = record { is = grind (arith, cut_cut) }
 
 -- a line with as many bytes behind it as there is room for is cut at 32
 pub filled :

@@ -1,6 +1,5 @@
 pub mod Drafts
 pub mod Example
-pub mod Items
 pub mod Lines
 pub mod Once
 pub mod Short

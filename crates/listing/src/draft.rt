@@ -8,7 +8,9 @@ use crate::item::Item;
 use crate::{LINE_BYTES, text};
 use std::marker::Model;
 
-// The capital hex digit of a number below 16.
+// The capital hex digit of a number below 16. (Why no `write!` with {:02X}: std promises its bytes where it answers Ok, and never that it
+// does, so that a line would owe an answer to an error that never comes.)
+#[tactic(auto, unfolding(isa::specs::Choice::pick))]
 fn digit(v: u8) -> u8
     requires { v < 16 }
     ensures { result ≡ digit_of v }
@@ -32,14 +34,15 @@ fn hex3(v: u16) -> [u8; 3]
 }
 
 // A 0 before a leading letter.
+#[tactic(auto, unfolding(isa::specs::Choice::pick))]
 fn lead(v: u8) -> &'static [u8]
     ensures { result.now ≡ lead v }
 {
-    let small = v < 10;
-    if small { b"" } else { b"0" }
+    if v < 10 { b"" } else { b"0" }
 }
 
-// The bytes so far. A full line stays as it is.
+// The bytes so far. A full line stays as it is. (Why no `arrayvec::ArrayVec`: that takes all of a slice or nothing, so that each `put`
+// would owe that there is room, or answer an error that never comes.)
 #[derive(Drop)]
 pub struct Draft {
     bytes: [u8; LINE_BYTES],
@@ -65,6 +68,7 @@ impl Draft {
     }
 
     // The line of an item: "address in 3 hex digits, 2 spaces, bytes padded to 5, 2 spaces, text", and LF.
+    #[tactic(auto, using(crate::proofs::Drafts::cut_cut))]
     pub fn of(item: &Item) -> Self
         ensures { result ≡ cut (line_of item.now) }
     {
@@ -93,6 +97,8 @@ impl Draft {
         self.length += n;
     }
 
+    #[tactic(auto, using(crate::proofs::Drafts::cut_cut))]
+    // (A byte and an address are two, since each has its own digits, and the definitions a text of each.)
     fn put_byte(&mut self, v: u8)
         ensures { Adds self.old (byte_number v) self.new }
     {
@@ -101,6 +107,7 @@ impl Draft {
         self.put(b"H");
     }
 
+    #[tactic(auto, using(crate::proofs::Drafts::cut_cut))]
     fn put_address(&mut self, v: u16)
         requires { v < 4096 }
         ensures { Adds self.old (address_number v) self.new }
@@ -112,6 +119,7 @@ impl Draft {
     }
 
     // One letter of a row's text: a small letter is a number.
+    #[tactic(auto, unfolding(crate::specs::Text::expand, isa::specs::Choice::pick))]
     fn put_letter(&mut self, item: &Item, letter: u8)
         ensures { Adds self.old (letter_of item.now letter) self.new }
     {
@@ -127,6 +135,7 @@ impl Draft {
     }
 
     // The text behind its 2 spaces, and LF.
+    #[tactic(auto, using(crate::proofs::Texts::endings))]
     fn put_ending(&mut self, item: &Item)
         ensures { Adds self.old (ending_of item.now) self.new }
     {

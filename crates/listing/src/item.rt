@@ -6,6 +6,7 @@ use isa::Set;
 // A code at an address, and the number of its row in isa's sheet. With row 0 it is a byte alone, which is DB.
 #[derive(Clone, Copy)]
 pub struct Item {
+    // The number of a row, as `isa::decode::made` takes it.
     pub kind: u8,
     pub address: u16,
     pub code: u8,
@@ -21,12 +22,12 @@ impl Item {
     ghost use Rattle.listing.specs.Listing.{line_at, size_at};
 
     // The second byte of a code, where the program has it. One at 7FF or FFF has none.
+    #[tactic(auto, unfolding(isa::specs::Choice::pick))]
     fn second_at(program: &[u8], at: usize) -> Option<u8>
         requires { length program.now ≤ 4096 }
         ensures { result ≡ second_of program.now at }
     {
-        let whole = at % 2048 < 2047;
-        if whole {
+        if at % 2048 < 2047 {
             program.get(at + 1).copied()
         } else {
             None
@@ -34,6 +35,7 @@ impl Item {
     }
 
     // What the line at an address shows. An undefined code is DB, and so is one that lacks its second byte.
+    #[tactic(auto, unfolding(crate::specs::Listing::line_at, crate::specs::Listing::size_at, isa::specs::Choice::pick))]
     pub fn at(set: Set, program: &[u8], address: u16) -> Self
         requires { (length program.now ≤ 4096) × (address < length program.now) }
         ensures line { line_of result ≡ line_at (under set program.now) address }

@@ -23,6 +23,7 @@ pub struct Listed {
 }
 
 // One line of the listing of a program, at an address, into a buffer.
+#[tactic(auto, unfolding(crate::specs::Listing::listed_of, crate::specs::Listing::line_after, isa::specs::Choice::pick))]
 pub fn line(set: Set, program: &[u8], address: usize, buffer: &mut [u8]) -> Result<Listed, Refusal>
     ensures answer { listed_as result ≡ listed_of (under set program.now) address (length buffer.old) }
     ensures left { buffer.new ≡ line_after (under set program.now) address buffer.old }

@@ -104,7 +104,7 @@ static TEXTS: [&str; 99] = [
     "STOP",
 ];
 
-// The text of a row: a small letter in it stands for a number.
+// The text of a row, by its number, as `isa::decode::made` takes it: a small letter in it stands for a number.
 pub fn text_of(kind: u8) -> &'static str
     requires { kind < 99 }
     ensures { result.now ≡ letters_of kind }

@@ -85,11 +85,15 @@ module _ (inside outside : List ℕ) where
     pub inside-byte : byte_at (visible inside outside ea) a ≡ byte_at inside a
     inside-byte = visible-byte ea a ∙ ap (λ (x : Byte). x.value) (sym is-inside)
 
-  -- The same of what a call of `fetch` answered: nothing where a byte is lacking, else the byte that is seen.
+  -- A fetch finds nothing where a byte is lacking, else the byte that is seen.
+  pub found_seen : (ea : Bool) (a : ℕ) → found_of (fetched inside outside ea a) ≡ pick (lacks (visible inside outside ea) a) None (Some (byte_at (visible inside outside ea) a))
+  unfolding found_of
+  found_seen ea a = rw (visible-lacks ea a, visible-byte ea a)
+
+  -- The same of what a call of `fetch` answered.
   module _ (ea : Bool) (a : ℕ) (r : Option ℕ) (e : r ≡ found_of (fetched inside outside ea a)) where
-    pub found-is : r ≡ pick (lacks (visible inside outside ea) a) None (Some (byte_at (visible inside outside ea) a))
-    unfolding found_of
-    found-is = rw (visible-lacks ea a, visible-byte ea a) e
+    found-is : r ≡ pick (lacks (visible inside outside ea) a) None (Some (byte_at (visible inside outside ea) a))
+    found-is = e ∙ found_seen ea a
 
     pub found-lacking : r ≡ None → lacks (visible inside outside ea) a ≡ true
     unfolding pick

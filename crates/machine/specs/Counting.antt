@@ -1,7 +1,7 @@
 -- Document 01, "Counting".
 -- Assumes nothing.
-use Rattle.std.specs.Prelude.{ℕ, ◌+◌, ◌/◌, ◌%◌, Bool, not, ◌&&◌, ◌||◌, ltb}
-use Rattle.isa.specs.Choice.{one_if}
+use Rattle.std.specs.Prelude.{ℕ, ◌+◌, ◌/◌, ◌%◌, Bool, not, ◌&&◌, ◌||◌, eqb, ltb}
+use Rattle.isa.specs.Choice.{pick, one_if}
 use Rattle.machine.specs.declared.Count.{Count}
 use Rattle.machine.specs.declared.Counting.{Counting}
 use Rattle.machine.specs.declared.Counting.TheVariants.{Stopped, Timer, Counter}
@@ -24,3 +24,12 @@ abbrev pub counted : Counting → Count → Bool → Bool → Count
 counted Stopped c t1 enabled = advanced c c.divider 0 t1 enabled
 counted Timer c t1 enabled = advanced c ((c.divider + 1) % 32) ((c.divider + 1) / 32) t1 enabled
 counted Counter c t1 enabled = advanced c c.divider (one_if (c.last && not t1)) t1 enabled
+
+-- "The counter stands still, counts cycles or counts falls of T1": 0, 1, 2.
+abbrev pub counting_byte : Counting → ℕ
+counting_byte Stopped = 0
+counting_byte Timer = 1
+counting_byte Counter = 2
+
+unfoldable pub counting_of : ℕ → Counting
+counting_of n = pick (eqb n 0) Stopped (pick (eqb n 1) Timer Counter)

@@ -2,6 +2,8 @@
 -- as levels." And "EA is bit 28" (document 02, item 7).
 -- Assumes nothing.
 use Rattle.std.specs.Prelude.{ℕ, ◌/◌, ◌%◌, ◌^◌, Bool, eqb}
+use Rattle.machine.specs.declared.pins.Pin.{Pin}
+use Rattle.machine.specs.declared.pins.Pin.TheVariants.{Int, T0, T1, Reset, Ea}
 
 abbrev pub int_pin : ℕ
 int_pin = 24
@@ -17,6 +19,14 @@ reset_pin = 27
 
 abbrev pub ea_pin : ℕ
 ea_pin = 28
+
+-- Which bit is a pin's.
+abbrev pub pin_number : Pin → ℕ
+pin_number Int = int_pin
+pin_number T0 = t0_pin
+pin_number T1 = t1_pin
+pin_number Reset = reset_pin
+pin_number Ea = ea_pin
 
 -- A pin's level in a sample.
 abbrev pub is_high : ℕ → ℕ → Bool

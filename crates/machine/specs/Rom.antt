@@ -6,6 +6,7 @@ use Rattle.isa.specs.Reading.{Program, under, lacks, byte_at}
 use Rattle.isa.specs.declared.Set.{Set}
 use Rattle.machine.specs.Pins.{ea_pin, is_high}
 use Rattle.machine.specs.declared.rom.Lent.{Lent}
+use Rattle.machine.specs.declared.rom.Seen.{Seen}
 use Rattle.machine.specs.declared.rom.Memory.{Memory}
 use Rattle.machine.specs.declared.rom.Memory.TheVariants.{Internal, External}
 
@@ -39,6 +40,10 @@ found_of b = pick b.lacking None (Some b.value)
 -- `visible-lacks` and `visible-byte`).
 unfoldable pub visible : List ℕ → List ℕ → Bool → List ℕ
 visible inside outside ea = pick ea outside (inside ++ drop (length inside) outside)
+
+-- The code's own type.
+abbrev pub visible_in : Seen → List ℕ
+visible_in s = visible s.lent.program.now s.lent.outside.now s.ea
 
 -- What is lent as program memory: the set, the program in the chip, and the second one, which is empty where there is none.
 pub record Roms : Type 0 where

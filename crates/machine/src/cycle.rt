@@ -9,13 +9,12 @@ pub fn count_cycle(counting: Counting, c: Count, t1: bool, enabled: bool) -> Cou
     ensures { result ≡ counted counting c t1 enabled }
 {
     match counting {
-        Counting::Stopped => keep(c, c.divider, t1),
+        Counting::Stopped => advance(c, c.divider, 0, t1, enabled),
         Counting::Timer => {
             let next = c.divider as u16 + 1;
             // The usual cycle leaves T alone, and so leaves here.
-            let early = next < State::DIVIDER_LIMIT;
-            if early {
-                return keep(c, next as u8, t1);
+            if next < State::DIVIDER_LIMIT {
+                return advance(c, next as u8, 0, t1, enabled);
             }
             advance(
                 c,
@@ -27,33 +26,18 @@ pub fn count_cycle(counting: Counting, c: Count, t1: bool, enabled: bool) -> Cou
         }
         Counting::Counter => {
             let fall = c.last & !t1;
-            if fall {
-                return advance(c, c.divider, 1, t1, enabled);
-            }
-            keep(c, c.divider, t1)
+            advance(c, c.divider, fall as u8, t1, enabled)
         }
     }
 }
 
-// The divider becomes `divider`, T stays, and T1's level is remembered.
-fn keep(c: Count, divider: u8, t1: bool) -> Count
-    ensures { (enabled : Bool) → result ≡ advanced c divider 0 t1 enabled }
-{
-    Count {
-        divider,
-        last: t1,
-        ..c
-    }
-}
-
-// The divider becomes `divider`, T goes up by n, which is 0 or 1, and T1's level is remembered.
+// The divider becomes `divider`, T goes up by n, which is 0 or 1 (a number, as the definition adds it), and T1's level is remembered.
 fn advance(c: Count, divider: u8, n: u8, t1: bool, enabled: bool) -> Count
     ensures { result ≡ advanced c divider n t1 enabled }
 {
-    let sum = c.t as u16 + n as u16;
-    let over = 255 < sum;
+    let (t, over) = c.t.overflowing_add(n);
     Count {
-        t: (sum % 256) as u8,
+        t,
         divider,
         tf: c.tf | over,
         request: c.request | (over & enabled),

@@ -1,30 +1,65 @@
 #![tactic(auto)]
-// The machine state, what it may hold, and the counting of one machine cycle.
-ghost use Rattle.std.specs.Prelude.{◌≡◌};
-ghost use Rattle.machine.specs.Mode.{is_running, mode_allowed};
+// The machine state, what it may hold, program memory, pins, and the counting of one machine cycle.
+ghost use Rattle.std.specs.Prelude.{◌≡◌, is_ok, IfOk, ltb};
+ghost use Rattle.machine.specs.Counting.{counting_of};
+ghost use Rattle.machine.specs.Mode.{is_running, mode_allowed, mode_of};
 ghost use Rattle.machine.specs.State.{power_up, permitted, count_of, with_core, with_flags, with_count, with_counting, with_interrupts, with_ports, with_mode, running_at, with_a, with_pc, with_psw};
 
-use isa::Set;
+use isa::{Refusal, Set};
 
 pub mod cycle; // one machine cycle
 pub mod pins; // the bits of a pin sample
+pub mod psw; // the bits of PSW
 pub mod rom; // program memory, inside and outside
 
 // "The counter stands still, counts cycles or counts falls of T1: one of the three."
 #[derive(Clone, Copy)]
 pub enum Counting {
-    Stopped,
-    Timer,
-    Counter,
+    Stopped = 0,
+    Timer = 1,
+    Counter = 2,
+}
+
+impl TryFrom<u8> for Counting {
+    type Error = Refusal;
+
+    ghost try_from_gives = { λ n r. (is_ok r ≡ ltb n 3) × IfOk r (λ counting. counting ≡ counting_of n) };
+
+    #[tactic(auto, unfolding(crate::specs::Counting::counting_of, isa::specs::Choice::pick))]
+    fn try_from(n: u8) -> Result<Self, Refusal> {
+        match n {
+            0 => Ok(Counting::Stopped),
+            1 => Ok(Counting::Timer),
+            2 => Ok(Counting::Counter),
+            _ => Err(Refusal::StateOutside),
+        }
+    }
 }
 
 // Whether the machine runs, is in the data sheet's HALT mode or STOP mode, or was just released from one by INT.
 #[derive(Clone, Copy)]
 pub enum Mode {
-    Running,
-    HaltMode,
-    StopMode,
-    Released,
+    Running = 0,
+    HaltMode = 1,
+    StopMode = 2,
+    Released = 3,
+}
+
+impl TryFrom<u8> for Mode {
+    type Error = Refusal;
+
+    ghost try_from_gives = { λ n r. (is_ok r ≡ ltb n 4) × IfOk r (λ mode. mode ≡ mode_of n) };
+
+    #[tactic(auto, unfolding(crate::specs::Mode::mode_of, isa::specs::Choice::pick))]
+    fn try_from(n: u8) -> Result<Self, Refusal> {
+        match n {
+            0 => Ok(Mode::Running),
+            1 => Ok(Mode::HaltMode),
+            2 => Ok(Mode::StopMode),
+            3 => Ok(Mode::Released),
+            _ => Err(Refusal::StateOutside),
+        }
+    }
 }
 
 // The interrupts enabled, the external one and TCNTI, the timer's, and whether one is in service.
@@ -67,7 +102,8 @@ pub struct State {
     pub ports: Ports,
 }
 
-// The part of the state that counting a cycle changes.
+// The part of the state that counting a cycle changes. (The state has these five itself: the theorems of the demands name them as its
+// parts, and a Count in it costs time in each of three places: docs/PERFORMANCE.md.)
 #[derive(Clone, Copy)]
 pub struct Count {
     pub t: u8,
@@ -77,7 +113,7 @@ pub struct Count {
     pub last: bool,
 }
 
-// Whether the machine simply runs: it is in no standby mode, and was not just released from one.
+// Whether the machine simply runs: it is in no standby mode, and was not just released from one. (Its promise is docs/STATEMENTS.md's.)
 pub fn is_running(m: Mode) -> bool
     ensures { result ≡ is_running m }
 {
@@ -153,18 +189,18 @@ impl State {
         }
     }
 
-    // Whether each part is within its size, PSW bit 3 is 1, and the set has the mode; if not, 3.
+    // Whether each part is within its size, PSW bit 3 is 1, and the set has the mode; if not, it is refused as StateOutside.
     pub fn is_permitted(self, set: Set) -> bool
         ensures { result ≡ permitted set self }
     {
-        // (With && in place of &, a step of a run takes six instructions more: docs/PERFORMANCE.md.)
+        // (& and no &&, which misses the bound of a run's step: docs/PERFORMANCE.md.)
         (self.pc < Self::PC_LIMIT)
             & ((self.divider as u16) < Self::DIVIDER_LIMIT)
             & (self.psw / 8 % 2 == 1)
             & is_allowed(set, self.mode)
     }
 
-    // The changes of a state. The first eight say the parts that change, and the others call one of those.
+    // The changes of a state, each of the parts that it names: a caller's (docs/STATEMENTS.md), beside which `..` says the same.
     pub fn with_core(self, a: u8, pc: u16, psw: u8) -> Self
         ensures { result ≡ with_core self a pc psw }
     {
@@ -237,19 +273,19 @@ impl State {
     pub fn with_a(self, a: u8) -> Self
         ensures { result ≡ with_a self a }
     {
-        self.with_core(a, self.pc, self.psw)
+        State { a, ..self }
     }
 
     pub fn with_pc(self, pc: u16) -> Self
         ensures { result ≡ with_pc self pc }
     {
-        self.with_core(self.a, pc, self.psw)
+        State { pc, ..self }
     }
 
     pub fn with_psw(self, psw: u8) -> Self
         ensures { result ≡ with_psw self psw }
     {
-        self.with_core(self.a, self.pc, psw)
+        State { psw, ..self }
     }
 
     pub fn count(self) -> Count

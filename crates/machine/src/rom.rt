@@ -19,14 +19,20 @@ pub struct Lent<'a> {
     pub outside: &'a [u8],
 }
 
-impl Lent<'_> {
+// Program memory as a step sees it: what is lent, and whether EA is high.
+#[derive(Clone, Copy)]
+pub struct Seen<'a> {
+    pub lent: Lent<'a>,
+    pub ea: bool,
+}
+
+impl Seen<'_> {
     // The memory that must answer. Past the internal end, and everywhere while EA is high, it is the one outside.
     #[tactic(auto, unfolding(isa::specs::Choice::pick))]
-    pub fn answering(self, ea: bool, address: u16) -> Memory
-        ensures { result ≡ answering self.entry.program.now ea address }
+    pub fn answering(self, address: u16) -> Memory
+        ensures { result ≡ answering self.entry.lent.program.now self.entry.ea address }
     {
-        // (Written with | in place of ||, a step of a run takes 130.1 instructions: docs/PERFORMANCE.md.)
-        let outer = ea || self.program.len() <= address as usize;
+        let outer = self.ea || self.lent.program.len() <= address as usize;
         if outer {
             Memory::External
         } else {
@@ -35,13 +41,14 @@ impl Lent<'_> {
     }
 
     // The byte at an address, if the memory that must answer has it.
-    pub fn fetch(self, ea: bool, address: u16) -> Option<u8>
-        ensures { result ≡ found_of (fetched self.entry.program.now self.entry.outside.now ea address) }
+    #[tactic(auto, unfolding(crate::specs::Rom::fetched, crate::specs::Rom::found_of, isa::specs::Choice::pick))]
+    pub fn fetch(self, address: u16) -> Option<u8>
+        ensures { result ≡ found_of (fetched self.entry.lent.program.now self.entry.lent.outside.now self.entry.ea address) }
     {
         let at = address as usize;
-        match self.answering(ea, address) {
-            Memory::Internal => self.program.get(at).copied(),
-            Memory::External => self.outside.get(at).copied(),
+        match self.answering(address) {
+            Memory::Internal => self.lent.program.get(at).copied(),
+            Memory::External => self.lent.outside.get(at).copied(),
         }
     }
 }

@@ -6,19 +6,20 @@ use mathlib.Core.List.{List}
 use mathlib.Core.Path.{◌≡◌, refl, ◌∙◌}
 use native.Mathlib.Omega.{arith}
 use Rattle.isa.specs.Choice.{pick}
+use Rattle.isa.specs.Naming.{set_of}
 use Rattle.machine.specs.Rom.{both}
 use Rattle.chip.specs.Run.{Ended, begun, ended}
 use Rattle.chip.specs.Step.{refused_by, step_of}
 use Rattle.demands.proofs.Tested.{never-3, only-at-start}
 use Rattle.mcs48_c.specs.Bytes.{state_of}
 use Rattle.mcs48_c.specs.Calls.{step_from, ram_from, run_from, totalled, totals_after}
-use Rattle.mcs48_c.specs.Naming.{set_of, by_named}
-use Rattle.mcs48_c.specs.Stepping.{Lent, run_leaves, step_leaves}
+use Rattle.mcs48_c.specs.Naming.{by_named}
+use Rattle.mcs48_c.specs.Stepping.{Buffers, run_leaves, step_leaves}
 use Rattle.mcs48_c.proofs.Demand3.{c-step-state}
 use Rattle.mcs48_c.proofs.Naming.{Names, a_set, no-set, names}
 
 pub c-never-3 :
-    (name : ℕ) (program outside : List ℕ) (b : Lent) (first second : ℕ) → (step_from name program outside b.ram b.bytes first second).number ≡ 0
+    (name : ℕ) (program outside : List ℕ) (b : Buffers) (first second : ℕ) → (step_from name program outside b.ram b.bytes first second).number ≡ 0
     → (x y : ℕ)
     → (step_from name program outside (step_leaves name program outside b first second).ram (step_leaves name program outside b first second).bytes x y).number ≡ 3
     → ⊥
@@ -31,7 +32,7 @@ c-never-3 name program outside b first second a x y = rw (c-step-state name prog
     go (a_set set e) = rw e (λ a. never-3 (both set program outside) b.ram (state_of b.bytes) first second a x y)
     go (no-set e) = rw e (λ a. absurd (omega (arith, a)))
 
-module _ (name : ℕ) (program outside : List ℕ) (b : Lent) (samples : List ℕ) where
+module _ (name : ℕ) (program outside : List ℕ) (b : Buffers) (samples : List ℕ) where
   abbrev run : Ended
   run = run_from name program outside b.ram b.bytes samples
 

@@ -12,11 +12,13 @@ use lib.Dec.{eqb}
 use lib.ListN.{length}
 use borrow.Author.Tests.{eqb-true, eqb-false, eq-eqb, ne_eqb}
 use Rattle.isa.specs.Choice.{pick, one_if}
+use Rattle.isa.specs.Naming.{set_of}
 use Rattle.isa.specs.Numbers.{given}
 use Rattle.isa.specs.Reading.{byte_at}
 use Rattle.isa.specs.Sets.{Standby}
 use Rattle.isa.specs.declared.Instruction.{Instruction}
 use Rattle.isa.specs.declared.Set.{Set}
+use Rattle.machine.specs.Counting.{counting_of}
 use Rattle.machine.specs.Pins.{int_pin, is_low}
 use Rattle.machine.specs.Rom.{Roms, both}
 use Rattle.machine.specs.State.{permitted}
@@ -32,10 +34,9 @@ use Rattle.demands.proofs.Demand3.{count-after, tf-left, request-left, called-in
 use Rattle.chip.proofs.Exactly.{refused-unchanged, allowed, lent-refuses}
 use Rattle.chip.proofs.Linking.{sample-a-cycle, run-history, not-begun}
 use Rattle.chip.proofs.Runs.{run-short}
-use Rattle.mcs48_c.specs.Bytes.{counting_of, bytes_of, formed, state_in, state_of, holding}
+use Rattle.mcs48_c.specs.Bytes.{bytes_of, formed, state_in, state_of, holding}
 use Rattle.mcs48_c.specs.Calls.{step_from, run_from, after_step, after_run}
-use Rattle.mcs48_c.specs.Naming.{set_of}
-use Rattle.mcs48_c.specs.Stepping.{Lent, run_leaves, step_leaves, Stepped, none, more, UndisturbedCalls, JustStartedBytes, CalledBytes}
+use Rattle.mcs48_c.specs.Stepping.{Buffers, run_leaves, step_leaves, Stepped, none, more, UndisturbedCalls, JustStartedBytes, CalledBytes}
 use Rattle.mcs48_c.proofs.Naming.{Names, a_set, no-set, names}
 use Rattle.mcs48_c.proofs.States.{state-back}
 
@@ -122,7 +123,7 @@ module _ (roms : Roms) (ram bytes : List ℕ) where
 
 -- ---- so do those that a call from C leaves, whatever its number names: under 25 the bytes stay, and the state is theirs
 pub c-step-state :
-    (name : ℕ) (program outside : List ℕ) (b : Lent) (first second : ℕ)
+    (name : ℕ) (program outside : List ℕ) (b : Buffers) (first second : ℕ)
     → state_of (step_leaves name program outside b first second).bytes
     ≡ (step_from name program outside b.ram b.bytes first second).state
 unfolding pick
@@ -136,7 +137,7 @@ c-step-state name program outside b first second = go (names name)
     go (no-set e) = rw e
 
 pub c-run-state :
-    (name : ℕ) (program outside : List ℕ) (b : Lent) (samples : List ℕ)
+    (name : ℕ) (program outside : List ℕ) (b : Buffers) (samples : List ℕ)
     → state_of (run_leaves name program outside b samples).bytes ≡ (run_from name program outside b.ram b.bytes samples).ran.state
 unfolding pick
 c-run-state name program outside b samples = go (names name)
@@ -162,7 +163,7 @@ called-bytes roms k first second bytes e call =
     })
 
 -- ---- mcs48_run, its number naming a set
-module _ (name : ℕ) (set : Set) (named : set_of name ≡ given set) (program outside : List ℕ) (b : Lent) (samples : List ℕ)
+module _ (name : ℕ) (set : Set) (named : set_of name ≡ given set) (program outside : List ℕ) (b : Buffers) (samples : List ℕ)
     (lent : lent_of (both set program outside) b.ram (state_of b.bytes) ≡ 0) where
   abbrev ran : Ended
   ran = run_from name program outside b.ram b.bytes samples
@@ -273,7 +274,7 @@ module _ (name : ℕ) (set : Set) (named : set_of name ≡ given set) (program o
 -- ---- mcs48_step, call after call, the number naming a set
 -- The bytes that an accepted call leaves are those of the state that it leaves.
 call-bytes :
-    (name : ℕ) (set : Set) (named : set_of name ≡ given set) (program outside : List ℕ) (k : Lent) (first second : ℕ)
+    (name : ℕ) (set : Set) (named : set_of name ≡ given set) (program outside : List ℕ) (k : Buffers) (first second : ℕ)
     → (step_from name program outside k.ram k.bytes first second).number ≡ 0
     → (step_leaves name program outside k first second).bytes
     ≡ bytes_of (step_from name program outside k.ram k.bytes first second).state
@@ -281,7 +282,7 @@ call-bytes name set named program outside k first second a =
     rw named (step-bytes (both set program outside) k.ram k.bytes first second (rw named at a))
 
 -- The calls as a history of the chip.
-record Follows (set : Set) {name : ℕ} {program outside : List ℕ} {b k : Lent} {n : ℕ}
+record Follows (set : Set) {name : ℕ} {program outside : List ℕ} {b k : Buffers} {n : ℕ}
     (h : Stepped name program outside b k n) : Type 0 where
   end : Progress
   steps : Steps (both set program outside) b.ram (state_of b.bytes) end
@@ -290,16 +291,16 @@ record Follows (set : Set) {name : ℕ} {program outside : List ℕ} {b k : Lent
   cycles : end.cycles ≡ n
   undisturbed : UndisturbedCalls set h → AllUndisturbed steps
 
-module _ {name : ℕ} {program outside : List ℕ} {b : Lent} (set : Set) (named : set_of name ≡ given set) where
+module _ {name : ℕ} {program outside : List ℕ} {b : Buffers} (set : Set) (named : set_of name ≡ given set) where
   -- A call as a step of that history.
   next-fine :
-      {k : Lent} {n : ℕ} (h : Stepped name program outside b k n) (f : Follows set h) (first second : ℕ)
+      {k : Buffers} {n : ℕ} (h : Stepped name program outside b k n) (f : Follows set h) (first second : ℕ)
       → (step_from name program outside k.ram k.bytes first second).number ≡ 0
       → (plan_at (both set program outside) f.end first second).number ≡ 0
   next-fine h f first second a = rw (f.ram, f.state) (rw named at a)
 
   follow-more :
-      {k : Lent} {n : ℕ} (first second : ℕ) (h : Stepped name program outside b k n)
+      {k : Buffers} {n : ℕ} (first second : ℕ) (h : Stepped name program outside b k n)
       (a : (step_from name program outside k.ram k.bytes first second).number ≡ 0) → Follows set h → Follows set (more first second h a)
   follow-more {k} first second h a f =
       record {
@@ -311,13 +312,13 @@ module _ {name : ℕ} {program outside : List ℕ} {b : Lent} (set : Set) (named
         undisturbed = λ u. (f.undisturbed u.0, rw f.state u.1);
       }
 
-  follows : {k : Lent} {n : ℕ} (h : Stepped name program outside b k n) → Follows set h
+  follows : {k : Buffers} {n : ℕ} (h : Stepped name program outside b k n) → Follows set h
   follows none = record { end = begun b.ram (state_of b.bytes); steps = no_steps; ram = refl; state = refl; cycles = refl; undisturbed = λ u. tt }
   follows (more first second h a) = follow-more first second h a (follows h)
 
   -- The bytes that a call leaves.
   left-bytes :
-      {k : Lent} {n : ℕ} (first second : ℕ) (h : Stepped name program outside b k n)
+      {k : Buffers} {n : ℕ} (first second : ℕ) (h : Stepped name program outside b k n)
       (a : (step_from name program outside k.ram k.bytes first second).number ≡ 0)
       → (step_leaves name program outside k first second).bytes ≡ bytes_of (follows (more first second h a)).end.state
   left-bytes {k} first second h a =
@@ -332,7 +333,7 @@ zero-false : (x : Bool) → one_if x ≡ 0 → x ≡ false
 zero-false true e = absurd (omega arith)
 zero-false false e = refl
 
-module _ (name : ℕ) (set : Set) (named : set_of name ≡ given set) (program outside : List ℕ) (b : Lent)
+module _ (name : ℕ) (set : Set) (named : set_of name ≡ given set) (program outside : List ℕ) (b : Buffers)
     (lent : lent_of (both set program outside) b.ram (state_of b.bytes) ≡ 0) (c : ℕ) (small : c < 256)
     (started : JustStartedBytes c b.bytes) where
   start : JustStarted c (state_of b.bytes)
@@ -341,7 +342,7 @@ module _ (name : ℕ) (set : Set) (named : set_of name ≡ given set) (program o
 
   -- After any calls: T, in byte 6.
   pub c-steps-count :
-      {k : Lent} {n : ℕ} (h : Stepped name program outside b k n) → UndisturbedCalls set h → byte_at k.bytes 6 ≡ (c + n / 32) % 256
+      {k : Buffers} {n : ℕ} (h : Stepped name program outside b k n) → UndisturbedCalls set h → byte_at k.bytes 6 ≡ (c + n / 32) % 256
   unfolding bytes_of
   c-steps-count none u = started.t ∙ omega arith
   c-steps-count (more first second h a) u =
@@ -351,11 +352,11 @@ module _ (name : ℕ) (set : Set) (named : set_of name ≡ given set) (program o
       ∙ ap (λ (m : ℕ). (c + m / 32) % 256) f.cycles
 
   -- The call with the first overflow,
-  module _ {k : Lent} {n : ℕ} (first second : ℕ) (h : Stepped name program outside b k n)
+  module _ {k : Buffers} {n : ℕ} (first second : ℕ) (h : Stepped name program outside b k n)
       (a : (step_from name program outside k.ram k.bytes first second).number ≡ 0) (u : UndisturbedCalls set (more first second h a))
       (starts : n < overflow_cycle c)
       (ends : overflow_cycle c ≤ n + (step_from name program outside k.ram k.bytes first second).cycles) where
-    abbrev pub overflowed : Lent
+    abbrev pub overflowed : Buffers
     overflowed = step_leaves name program outside k first second
 
     from : Running c 0 (state_of b.bytes)

@@ -5,8 +5,11 @@ use mathlib.Core.Path.{◌≡◌, refl}
 use mathlib.Core.List.{List, [], ◌∷◌}
 use Prim.Native.Nat.{ℕ}
 use Rattle.isa.specs.Choice.{pick}
+use Rattle.isa.specs.Naming.{set_of}
 use Rattle.isa.specs.Reading.{byte_at, read_of, instruction_at, decoded_at}
 use Rattle.isa.specs.Sheet.{kind_of, entry_of}
+use Rattle.machine.specs.Counting.{counting_of}
+use Rattle.machine.specs.Mode.{mode_of}
 use Rattle.machine.specs.Rom.{visible}
 use Rattle.machine.specs.State.{power_up, with_pc}
 use Rattle.effects.specs.Effect.{written}
@@ -16,11 +19,10 @@ use Rattle.chip.specs.Cases.{times, idle, blank}
 use Rattle.chip.specs.Outside.{from_outside}
 use Rattle.chip.specs.Run.{run_by, run_of}
 use Rattle.chip.specs.Step.{declined, accepted, waits, done, carried, course, ticked, settled, plan_by}
-use Rattle.mcs48_c.specs.Bytes.{counting_of, mode_of, bytes_of, state_of, holding}
+use Rattle.mcs48_c.specs.Bytes.{bytes_of, state_of, holding}
 use Rattle.mcs48_c.specs.Calls.{step_from, run_from, read_from, totalled, totals_after}
-use Rattle.mcs48_c.specs.Naming.{set_of}
 use Rattle.mcs48_c.specs.Packed.{packed, packed_step, packed_read}
-use Rattle.mcs48_c.specs.Stepping.{Lent, step_leaves}
+use Rattle.mcs48_c.specs.Stepping.{Buffers, step_leaves}
 
 -- What mcs48_power_up writes: PSW 08 in byte 3, the latches FF in bytes 16 to 18, and all else 0, the mode in byte 20 too.
 power-up-bytes :
@@ -37,17 +39,17 @@ abbrev low : ℕ
 low = 0x0EFF_FFFF
 
 -- What a call of mcs48_step answers, and byte 20 after it.
-abbrev told : ℕ → Lent → ℕ → List ℕ
+abbrev told : ℕ → Buffers → ℕ → List ℕ
 told name b first =
     packed_step (step_from name program [] b.ram b.bytes first idle) ∷ byte_at (step_leaves name program [] b first idle).bytes 20 ∷ []
 
-abbrev started : Lent
+abbrev started : Buffers
 started = record { ram = blank; bytes = bytes_of power_up }
 
-abbrev halted : Lent
+abbrev halted : Buffers
 halted = step_leaves 1 program [] started idle idle
 
-abbrev freed : Lent
+abbrev freed : Buffers
 freed = step_leaves 1 program [] halted low idle
 
 -- Under NEC: HALT takes a cycle and a sample and halts; a wait takes a sample alone, with INT high or low; INT low lets it go; and it runs.

@@ -2,7 +2,6 @@ pub mod AtStart
 pub mod Demand3
 pub mod Example
 pub mod Inside
-pub mod Lines
 pub mod Naming
 pub mod NoSet
 pub mod OneStep

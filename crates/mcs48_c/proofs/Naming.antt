@@ -1,4 +1,4 @@
--- The set that a number names, told by the answer of `set_named`: the one is the other by its contract.
+-- The set that a number names, told by the answer of `Set::try_from`: the one is the other by its contract.
 -- Assumes nothing.
 use mathlib.Core.Path.{◌≡◌, refl, sym, ◌∙◌}
 use mathlib.Core.Bool.{Bool, true, false}
@@ -7,17 +7,15 @@ use native.Mathlib.Omega.{arith}
 use lib.Dec.{eqb}
 use borrow.Author.Tests.{ne_eqb}
 use Rattle.isa.specs.Choice.{pick}
+use Rattle.isa.specs.Naming.{set_of, named_as}
 use Rattle.isa.specs.Numbers.{Answer, given, refused}
+use Rattle.isa.specs.declared.Refusal.{Refusal}
 use Rattle.isa.specs.declared.Set.{Set}
 use Rattle.isa.specs.declared.Set.TheVariants.{Intel, Nec}
-use Rattle.mcs48_c.specs.Naming.{set_of, named_as}
-use Rattle.std.specs.Prelude.{Option, Some, None}
+use Rattle.std.specs.Prelude.{Result, Ok}
 
-pub known : {r : Option Set} {x : Answer Set} {set : Set} → named_as r ≡ x → r ≡ Some set → x ≡ given set
+pub known : {r : Result Set Refusal} {x : Answer Set} {set : Set} → named_as r ≡ x → r ≡ Ok set → x ≡ given set
 known e is = sym e ∙ rw is
-
-pub unknown : {r : Option Set} {x : Answer Set} → named_as r ≡ x → r ≡ None → x ≡ refused 25
-unknown e is = sym e ∙ rw is
 
 -- A number names a set, or is refused by 25.
 pub data Names (name : ℕ) : Type 0 where

@@ -7,12 +7,12 @@ use lib.ListN.{length}
 use Rattle.isa.specs.Choice.{pick}
 use Rattle.mcs48_c.specs.Calls.{step_from, run_from, read_from, listed_from, line_from, totalled, totals_after}
 use Rattle.mcs48_c.specs.Packed.{packed, packed_step, packed_read, packed_line}
-use Rattle.mcs48_c.specs.Stepping.{Lent, run_leaves, step_leaves}
+use Rattle.mcs48_c.specs.Stepping.{Buffers, run_leaves, step_leaves}
 use Rattle.mcs48_c.proofs.Naming.{none-25}
 
 module _ (name : ℕ) (none : 1 < name) (program : List ℕ) where
   pub step-25 :
-      (outside : List ℕ) (b : Lent) (first second : ℕ)
+      (outside : List ℕ) (b : Buffers) (first second : ℕ)
       → (packed_step (step_from name program outside b.ram b.bytes first second) ≡ 25)
       × (step_leaves name program outside b first second ≡ b)
   unfolding packed pick
@@ -20,7 +20,7 @@ module _ (name : ℕ) (none : 1 < name) (program : List ℕ) where
 
   -- The totals are written, as 0 and 0.
   pub run-25 :
-      (outside : List ℕ) (b : Lent) (samples totals : List ℕ)
+      (outside : List ℕ) (b : Buffers) (samples totals : List ℕ)
       → ((run_from name program outside b.ram b.bytes samples).ran.number ≡ 25) × (run_leaves name program outside b samples ≡ b)
       × (totals_after totals (run_from name program outside b.ram b.bytes samples).ran ≡ totalled totals 0 0)
   unfolding pick

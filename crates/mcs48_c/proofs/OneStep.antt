@@ -3,7 +3,7 @@
 use mathlib.Core.Path.{◌≡◌, refl, ap, ◌∙◌}
 use mathlib.Core.Bool.{Bool, true, false}
 use mathlib.Core.List.{List, [], ◌∷◌}
-use Prim.Native.Nat.{ℕ, ◌%◌, ◌≤◌}
+use Prim.Native.Nat.{ℕ, ◌≤◌}
 use native.Mathlib.Nat.{zero-add}
 use native.Mathlib.Omega.{arith}
 use lib.Dec.{eqb, lit≤}
@@ -15,12 +15,13 @@ use Rattle.effects.specs.Effect.{Nothing, written}
 use Rattle.effects.specs.declared.Event.TheVariants.{Quiet}
 use Rattle.chip.specs.Admission.{lent_of, admission}
 use Rattle.chip.specs.Run.{Ended, begun, first_shown, run_by, run_over, run_of, unshown, Ran}
+use Rattle.chip.specs.declared.Report.{Report}
 use Rattle.chip.specs.Step.{Plan, declined, course, plan_by, plan_of, refused_by, report_of, step_of, ram_after, Outcome}
 use Rattle.chip.proofs.Exactly.{Unchanged, refused-step, refused-unchanged}
 use Rattle.chip.proofs.Lasting.{Spends, in_cycles, in_waiting, plan-busy}
 use Rattle.mcs48_c.specs.Bytes.{state_of, holding}
-use Rattle.mcs48_c.specs.Calls.{step_from, ram_from, run_from, shown_from, spent, after_run, after_step}
-use Rattle.mcs48_c.specs.declared.Spent.{Spent}
+use Rattle.mcs48_c.specs.Calls.{step_from, ram_from, run_from, shown_from, run_answer, after_run, after_step}
+use Rattle.mcs48_c.specs.declared.RunAnswer.{RunAnswer}
 use Rattle.mcs48_c.specs.Packed.{packed_refusal, packed_used, packed_step}
 use Rattle.mcs48_c.proofs.Naming.{Names, a_set, no-set, names}
 
@@ -99,12 +100,6 @@ step-little roms ram s x y = go (eqb (plan roms ram s x y).number 0) refl
         record { cycles = omega (arith, c); used = omega (arith, u); some = λ z. absurd (n z); none = λ z. u }
 
 module _ (o : Outcome) (l : Little o) where
-  bytes-told : packed_used o.number (o.cycles % 256) (o.used % 256) o.outside o.event ≡ packed_step o
-  bytes-told =
-      let c : o.cycles % 256 ≡ o.cycles = omega (arith, l.cycles) in
-      let u : o.used % 256 ≡ o.used = omega (arith, l.used) in
-      rw (c, u)
-
   bytes-kept : (old left : List ℕ) → after_run old (as_run o left).ran ≡ after_step old o
   unfolding pick
   bytes-kept old left = go (eqb o.number 0) refl
@@ -160,11 +155,13 @@ module _ (name : ℕ) (program outside ram bytes : List ℕ) (x y : ℕ) where
   is = ap (λ (e : Ended). e.ran) one-call
 
   pub stepped :
-      (r : Spent) → r ≡ spent ran (pick true (shown_from name program outside ram bytes (x ∷ y ∷ [])) unshown)
-      → packed_used r.number (r.cycles % 256) (r.used % 256) r.shown.outside r.shown.event
-      ≡ packed_step (step_from name program outside ram bytes x y)
+      (r : RunAnswer) → r ≡ run_answer ran (pick true (shown_from name program outside ram bytes (x ∷ y ∷ [])) unshown)
+      → packed_used r.number r.cycles r.used r.shown.outside r.shown.event ≡ packed_step (step_from name program outside ram bytes x y)
   unfolding pick
-  stepped r e = rw (e, is, one-shown) (bytes-told done call-little)
+  stepped r e = rw (e, is, one-shown)
+
+  pub little : {r : RunAnswer} {shown : Report} → r ≡ run_answer ran shown → (r.cycles ≤ 2) × (r.used ≤ 2)
+  little e = rw (e, is) (call-little.cycles, call-little.used)
 
   pub left : (run_from name program outside ram bytes (x ∷ y ∷ [])).ram ≡ ram_from name program outside ram bytes x y
   left = ap (λ (e : Ended). e.ram) one-call

@@ -13,15 +13,16 @@ use Rattle.isa.specs.Choice.{pick, one_if}
 use Rattle.isa.specs.Reading.{byte_at}
 use Rattle.isa.specs.declared.Set.{Set}
 use Rattle.isa.specs.declared.Set.TheVariants.{Intel}
+use Rattle.machine.specs.Counting.{counting_byte, counting_of}
 use Rattle.machine.specs.declared.Counting.{Counting}
 use Rattle.machine.specs.declared.Counting.TheVariants.{Stopped, Timer, Counter}
-use Rattle.machine.specs.Mode.{is_running}
+use Rattle.machine.specs.Mode.{is_running, mode_byte, mode_of}
 use Rattle.machine.specs.State.{permitted}
 use Rattle.machine.specs.declared.Mode.{Mode}
 use Rattle.machine.specs.declared.Mode.TheVariants.{Running, HaltMode, StopMode, Released}
 use Rattle.machine.specs.declared.State.{State}
 use Rattle.chip.specs.Admission.{program_allowed, outside_allowed, ram_allowed, lent_number}
-use Rattle.mcs48_c.specs.Bytes.{counting_byte, counting_of, mode_byte, mode_of, bytes_of, formed, state_in, state_of}
+use Rattle.mcs48_c.specs.Bytes.{bytes_of, formed, state_in, state_of}
 
 flag-fits : (b : Bool) → ltb (one_if b) 2 ≡ true
 flag-fits false = refl

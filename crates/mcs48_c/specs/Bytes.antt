@@ -3,11 +3,9 @@
 use Rattle.std.specs.Prelude.{ℕ, ◌+◌, ◌*◌, ◌/◌, ◌%◌, Bool, ◌&&◌, List, [], ◌∷◌, eqb, ltb, length}
 use Rattle.isa.specs.Choice.{pick, one_if}
 use Rattle.isa.specs.Reading.{byte_at}
+use Rattle.machine.specs.Counting.{counting_byte, counting_of}
+use Rattle.machine.specs.Mode.{mode_byte, mode_of}
 use Rattle.machine.specs.State.{power_up, with_pc}
-use Rattle.machine.specs.declared.Counting.{Counting}
-use Rattle.machine.specs.declared.Counting.TheVariants.{Stopped, Timer, Counter}
-use Rattle.machine.specs.declared.Mode.{Mode}
-use Rattle.machine.specs.declared.Mode.TheVariants.{Running, HaltMode, StopMode, Released}
 use Rattle.machine.specs.declared.State.{State}
 
 -- A flag's byte is 0 or 1.
@@ -16,25 +14,6 @@ is_flag bytes at = ltb (byte_at bytes at) 2
 
 abbrev pub flag_at : List ℕ → ℕ → Bool
 flag_at bytes at = eqb (byte_at bytes at) 1
-
--- "The counter stands still, counts cycles or counts falls of T1": 0, 1, 2.
-abbrev pub counting_byte : Counting → ℕ
-counting_byte Stopped = 0
-counting_byte Timer = 1
-counting_byte Counter = 2
-
-unfoldable pub counting_of : ℕ → Counting
-counting_of n = pick (eqb n 0) Stopped (pick (eqb n 1) Timer Counter)
-
--- "Whether it runs, is halted, is stopped or was just released by INT" (document 02, item 2): 0, 1, 2, 3.
-abbrev pub mode_byte : Mode → ℕ
-mode_byte Running = 0
-mode_byte HaltMode = 1
-mode_byte StopMode = 2
-mode_byte Released = 3
-
-unfoldable pub mode_of : ℕ → Mode
-mode_of n = pick (eqb n 0) Running (pick (eqb n 1) HaltMode (pick (eqb n 2) StopMode Released))
 
 -- The bytes of a state, 24 of them.
 unfoldable pub bytes_of : State → List ℕ

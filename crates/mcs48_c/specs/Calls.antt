@@ -3,6 +3,7 @@
 -- Assumes nothing.
 use Rattle.std.specs.Prelude.{ℕ, List, eqb, ltb, length, set}
 use Rattle.isa.specs.Choice.{pick}
+use Rattle.isa.specs.Naming.{set_of}
 use Rattle.isa.specs.Numbers.{Answer, refused}
 use Rattle.isa.specs.Reading.{Sized, under, read_of}
 use Rattle.machine.specs.Rom.{both}
@@ -10,9 +11,9 @@ use Rattle.chip.specs.Run.{Ended, begun, ended, first_shown, run_of, unshown, Ra
 use Rattle.chip.specs.Step.{refused_by, step_of, ram_after, Outcome}
 use Rattle.chip.specs.declared.Report.{Report}
 use Rattle.listing.specs.Listing.{Shown, listed_of, line_after}
-use Rattle.mcs48_c.specs.declared.Spent.{Spent}
+use Rattle.mcs48_c.specs.declared.RunAnswer.{RunAnswer}
 use Rattle.mcs48_c.specs.Bytes.{state_of, holding}
-use Rattle.mcs48_c.specs.Naming.{set_of, by_named}
+use Rattle.mcs48_c.specs.Naming.{by_named}
 
 -- A step from the state that lent bytes stand for, and the RAM that it leaves. `program` is in the chip, `outside` the second one, which is
 -- empty where there is none.
@@ -47,8 +48,8 @@ abbrev pub line_from : ℕ → List ℕ → ℕ → List ℕ → List ℕ
 line_from name program a old = by_named (set_of name) (λ set. line_after (under set program) a old) (λ number. old)
 
 -- What is left of a run's answer once its state is in the lent bytes, with what its first step shows.
-abbrev pub spent : Ran → Report → Spent
-spent r shown = record { number = r.number; used = r.used; cycles = r.cycles; shown = shown }
+abbrev pub run_answer : Ran → Report → RunAnswer
+run_answer r shown = record { number = r.number; used = r.used; cycles = r.cycles; shown = shown }
 
 -- The state's buffer after a step: "A refused step returns .. the state it got".
 abbrev pub after_step : List ℕ → Outcome → List ℕ

@@ -1,9 +1,10 @@
 -- Answers packed into one 64-bit number.
 -- Assumes nothing.
-use Rattle.std.specs.Prelude.{ℕ, ◌+◌, ◌*◌, ◌^◌, List, eqb}
+use Rattle.std.specs.Prelude.{ℕ, ◌+◌, ◌*◌, ◌^◌, List, Result, Ok, Err, eqb}
 use Rattle.isa.specs.Choice.{pick}
-use Rattle.isa.specs.Numbers.{Answer, given, refused}
+use Rattle.isa.specs.Numbers.{number_of, Answer, given, refused}
 use Rattle.isa.specs.Reading.{Sized, sized, byte_at, next_pc}
+use Rattle.isa.specs.declared.Refusal.{Refusal}
 use Rattle.effects.specs.Events.{event_as}
 use Rattle.effects.specs.declared.Event.{Event}
 use Rattle.chip.specs.Step.{Outcome}
@@ -16,6 +17,11 @@ packed b0 b1 b2 b3 b4 = b0 + b1 * 2 ^ 8 + b2 * 2 ^ 16 + b3 * 2 ^ 24 + b4 * 2 ^ 3
 -- A refusal: its number, and nothing else.
 abbrev pub packed_refusal : ℕ → ℕ
 packed_refusal number = packed number 0 0 0 0
+
+-- What is packed already, or a refusal.
+abbrev pub packed_answer : Result ℕ Refusal → ℕ
+packed_answer (Ok n) = n
+packed_answer (Err r) = packed_refusal (number_of r)
 
 -- A step: the number, the machine cycles, and the event's number, its address or port, its data or digit; in byte 5 how many bytes came
 -- from outside, and in byte 6 the samples used.

@@ -10,12 +10,12 @@ use Rattle.mcs48_c.specs.Bytes.{state_of}
 use Rattle.mcs48_c.specs.Calls.{step_from, ram_from, run_from, after_step, after_run}
 
 -- The buffers of the RAM and of the state.
-pub record Lent : Type 0 where
+pub record Buffers : Type 0 where
   pub ram : List ℕ
   pub bytes : List ℕ
 
 -- What a call of mcs48_run leaves in them.
-abbrev pub run_leaves : ℕ → List ℕ → List ℕ → Lent → List ℕ → Lent
+abbrev pub run_leaves : ℕ → List ℕ → List ℕ → Buffers → List ℕ → Buffers
 run_leaves name program outside k samples =
     record {
       ram = (run_from name program outside k.ram k.bytes samples).ram;
@@ -23,7 +23,7 @@ run_leaves name program outside k samples =
     }
 
 -- What a call of mcs48_step leaves in them.
-abbrev pub step_leaves : ℕ → List ℕ → List ℕ → Lent → ℕ → ℕ → Lent
+abbrev pub step_leaves : ℕ → List ℕ → List ℕ → Buffers → ℕ → ℕ → Buffers
 step_leaves name program outside k first second =
     record {
       ram = ram_from name program outside k.ram k.bytes first second;
@@ -31,16 +31,16 @@ step_leaves name program outside k first second =
     }
 
 -- Calls of mcs48_step on these buffers, one after the other and each accepted, with the machine cycles that they answered added up.
-pub data Stepped (name : ℕ) (program outside : List ℕ) (b : Lent) : Lent → ℕ → Type 0 where
+pub data Stepped (name : ℕ) (program outside : List ℕ) (b : Buffers) : Buffers → ℕ → Type 0 where
   none : Stepped name program outside b b 0
   more :
-      {k : Lent} {n : ℕ} (first second : ℕ) → Stepped name program outside b k n
+      {k : Buffers} {n : ℕ} (first second : ℕ) → Stepped name program outside b k n
       → (step_from name program outside k.ram k.bytes first second).number ≡ 0
       → Stepped name program outside b (step_leaves name program outside k first second)
       (n + (step_from name program outside k.ram k.bytes first second).cycles)
 
 -- In none of them a reset is seen, or one of STRT T, STRT CNT, STOP TCNT and MOV T,A carried out, the set being the one that is named.
-abbrev pub UndisturbedCalls : {name : ℕ} {program outside : List ℕ} {b k : Lent} {n : ℕ} → Set → Stepped name program outside b k n → Type 0
+abbrev pub UndisturbedCalls : {name : ℕ} {program outside : List ℕ} {b k : Buffers} {n : ℕ} → Set → Stepped name program outside b k n → Type 0
 UndisturbedCalls set none = Unit {0}
 UndisturbedCalls {program = program} {outside = outside} set (more {k = k} first second h a) =
     UndisturbedCalls set h × Undisturbed (both set program outside) (state_of k.bytes) first

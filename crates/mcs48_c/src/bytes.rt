@@ -1,58 +1,35 @@
 // The machine state as 24 bytes.
-ghost use Rattle.std.specs.Prelude.{◌≡◌, eqb, ltb, is_some, IfSome};
-ghost use Rattle.mcs48_c.specs.Bytes.{bytes_of, counting_of, mode_of, formed, holding, outside, state_in, state_of};
+ghost use Rattle.std.specs.Prelude.{◌≡◌, eqb, ltb, is_ok, IfOk};
+ghost use Rattle.mcs48_c.specs.Bytes.{bytes_of, formed, holding, outside, state_in, state_of};
 
+use isa::Refusal;
 use machine::{Counting, Interrupts, Mode, Ports, State};
 
+const STATE_BYTES: usize = 24;
+
 // A flag's byte is 0 or 1.
-fn flag(b: u8) -> Option<bool>
-    ensures known { is_some result ≡ ltb b 2 }
-    ensures is { IfSome result (λ on. on ≡ eqb b 1) }
+fn flag(b: u8) -> Result<bool, Refusal>
+    ensures known { is_ok result ≡ ltb b 2 }
+    ensures is { IfOk result (λ on. on ≡ eqb b 1) }
 {
     match b {
-        0 => Some(false),
-        1 => Some(true),
-        _ => None,
-    }
-}
-
-#[tactic(auto, unfolding(crate::specs::Bytes::counting_of, isa::specs::Choice::pick))]
-fn counting_of(n: u8) -> Option<Counting>
-    ensures known { is_some result ≡ ltb n 3 }
-    ensures is { IfSome result (λ c. c ≡ counting_of n) }
-{
-    match n {
-        0 => Some(Counting::Stopped),
-        1 => Some(Counting::Timer),
-        2 => Some(Counting::Counter),
-        _ => None,
-    }
-}
-
-#[tactic(auto, unfolding(crate::specs::Bytes::mode_of, isa::specs::Choice::pick))]
-fn mode_of(n: u8) -> Option<Mode>
-    ensures known { is_some result ≡ ltb n 4 }
-    ensures is { IfSome result (λ m. m ≡ mode_of n) }
-{
-    match n {
-        0 => Some(Mode::Running),
-        1 => Some(Mode::HaltMode),
-        2 => Some(Mode::StopMode),
-        3 => Some(Mode::Released),
-        _ => None,
+        0 => Ok(false),
+        1 => Ok(true),
+        _ => Err(Refusal::StateOutside),
     }
 }
 
 #[tactic(auto, unfolding(crate::specs::Bytes::bytes_of))]
-fn bytes_of(s: State) -> [u8; 24]
+fn bytes_of(s: State) -> [u8; STATE_BYTES]
     ensures { result ≡ bytes_of s }
 {
     let i = s.interrupts;
     let p = s.ports;
+    let [low, high] = s.pc.to_le_bytes();
     [
         s.a,
-        (s.pc % 256) as u8,
-        (s.pc / 256) as u8,
+        low,
+        high,
         s.psw,
         s.f1 as u8,
         s.dbf as u8,
@@ -77,21 +54,21 @@ fn bytes_of(s: State) -> [u8; 24]
     ]
 }
 
-// The state whose bytes they are, if they are those of a state. A pattern that names the 24 bytes was tried: with it a step of a run
-// takes 132.1 instructions, above the bound of 126 (docs/PERFORMANCE.md).
-fn state_in(b: &[u8; 24]) -> Option<State>
-    ensures known { is_some result ≡ formed b.now }
-    ensures is { IfSome result (λ s. s ≡ state_in b.now) }
+// The state whose bytes they are, if they are those of a state. (One pattern over the 24 bytes misses the bound of a run's step:
+// docs/PERFORMANCE.md.)
+fn state_in(b: &[u8; STATE_BYTES]) -> Result<State, Refusal>
+    ensures known { is_ok result ≡ formed b.now }
+    ensures is { IfOk result (λ s. s ≡ state_in b.now) }
 {
     if b[21] != 0 || b[22] != 0 || b[23] != 0 {
-        return None;
+        return Err(Refusal::StateOutside);
     }
-    Some(State {
-        mode: mode_of(b[20])?,
+    Ok(State {
+        mode: Mode::try_from(b[20])?,
         a: b[0],
         pc: u16::from_le_bytes([b[1], b[2]]),
         psw: b[3],
-        counting: counting_of(b[8])?,
+        counting: Counting::try_from(b[8])?,
         t: b[6],
         divider: b[7],
         tf: flag(b[9])?,
@@ -125,7 +102,7 @@ fn outside_state() -> State
 pub fn state_of(b: &[u8]) -> State
     ensures { result ≡ state_of b.now }
 {
-    match b.as_array::<24>() {
+    match b.as_array::<STATE_BYTES>() {
         Some(bytes) => state_in(bytes).unwrap_or(outside_state()),
         None => outside_state(),
     }
@@ -136,7 +113,7 @@ pub fn state_of(b: &[u8]) -> State
 pub fn hold(b: &mut [u8], s: State)
     ensures { b.new ≡ holding b.old s }
 {
-    if let Some(bytes) = b.as_mut_array::<24>() {
+    if let Some(bytes) = b.as_mut_array::<STATE_BYTES>() {
         *bytes = bytes_of(s);
     }
 }

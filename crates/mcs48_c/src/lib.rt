@@ -5,9 +5,8 @@ ghost use Rattle.isa.specs.Choice.{pick};
 ghost use Rattle.machine.specs.State.{power_up};
 ghost use Rattle.chip.specs.Run.{number_ended, unshown};
 ghost use Rattle.mcs48_c.specs.Bytes.{holding};
-ghost use Rattle.mcs48_c.specs.Calls.{after_run, after_step, line_from, listed_from, ram_from, read_from, run_from, shown_from, spent, step_from, totalled, totals_after};
-ghost use Rattle.mcs48_c.specs.Naming.{named_as, set_of};
-ghost use Rattle.mcs48_c.specs.Packed.{packed_line, packed_read, packed_step};
+ghost use Rattle.mcs48_c.specs.Calls.{after_run, after_step, line_from, listed_from, ram_from, read_from, run_answer, run_from, shown_from, step_from, totalled, totals_after};
+ghost use Rattle.mcs48_c.specs.Packed.{packed_answer, packed_line, packed_read, packed_step};
 
 use chip::Report;
 use isa::{Refusal, Set};
@@ -25,38 +24,37 @@ pub fn mcs48_power_up(state: &mut [u8])
     bytes::hold(state, State::power_up());
 }
 
-// The set that a caller in C names, if there is such a set.
-#[tactic(auto, unfolding(crate::specs::Naming::set_of, isa::specs::Choice::pick))]
-pub fn set_named(name: u32) -> Option<Set>
-    ensures { named_as result ≡ set_of name }
+// What mcs48_read answers, or the refusal.
+#[tactic(auto, unfolding(isa::specs::Choice::pick), using(crate::proofs::Inside::inside))]
+fn read(set: u32, program: &[u8], address: usize) -> Result<u64, Refusal>
+    ensures { packed_answer result ≡ packed_read program.now address (read_from set program.now address) }
 {
-    match name {
-        0 => Some(Set::Intel),
-        1 => Some(Set::Nec),
-        _ => None,
-    }
+    let set = Set::try_from(set)?;
+    let n = isa::read(set, program, address)?.bytes;
+    let code = program[address];
+    let second = if n == 2 {
+        program[isa::next_pc(address as u16) as usize]
+    } else {
+        0
+    };
+    Ok(packing::pack(0, n, code, second, 0))
 }
 
 // The instruction at an address: its length, and the bytes that the writer gives for it, which are those that stand there (`read-write`).
 pub fn mcs48_read(set: u32, program: &[u8], address: usize) -> u64
     ensures { result ≡ packed_read program.now address (read_from set program.now address) }
 {
-    let Some(named) = set_named(set) else {
-        return packing::pack_refusal(Refusal::SetUnknown);
-    };
-    match isa::read(named, program, address) {
-        Ok(read) => {
-            let n = read.bytes;
-            let code = program[address];
-            let second = if n == 2 {
-                program[isa::next_pc(address as u16) as usize]
-            } else {
-                0
-            };
-            packing::pack(0, n, code, second, 0)
-        }
-        Err(refusal) => packing::pack_refusal(refusal),
-    }
+    packing::answer(read(set, program, address))
+}
+
+// What mcs48_list_line answers, or the refusal.
+fn list_line(set: u32, program: &[u8], address: usize, line: &mut [u8]) -> Result<u64, Refusal>
+    ensures answer { packed_answer result ≡ packed_line (listed_from set program.now address (length line.old)) }
+    ensures left { line.new ≡ line_from set program.now address line.old }
+{
+    let set = Set::try_from(set)?;
+    let Listed { length, size } = listing::line(set, program, address, line)?;
+    Ok(packing::pack(0, length as u8, 0, size, 0))
 }
 
 // One line of a listing, into a buffer.
@@ -64,19 +62,13 @@ pub fn mcs48_list_line(set: u32, program: &[u8], address: usize, line: &mut [u8]
     ensures answer { result ≡ packed_line (listed_from set program.now address (length line.old)) }
     ensures left { line.new ≡ line_from set program.now address line.old }
 {
-    let Some(named) = set_named(set) else {
-        return packing::pack_refusal(Refusal::SetUnknown);
-    };
-    match listing::line(named, program, address, line) {
-        Ok(Listed { length: n, size }) => packing::pack(0, (n % 256) as u8, 0, size, 0),
-        Err(refusal) => packing::pack_refusal(refusal),
-    }
+    packing::answer(list_line(set, program, address, line))
 }
 
 // What is left of a run's answer once its state is in the lent bytes; `shown` is what its first step showed, if that was asked for.
 #[derive(Clone, Copy)]
-pub struct Spent {
-    // An Option here takes 131.7 instructions a step of a run, above the bound of 126.
+pub struct RunAnswer {
+    // 0 if no step was refused. (An Option here misses the bound of a run's step: docs/PERFORMANCE.md.)
     pub number: u8,
     pub used: usize,
     pub cycles: u64,
@@ -85,6 +77,7 @@ pub struct Spent {
 
 // A run over lent buffers. The only caller of the chip, and a step from C is a run over its two samples: so the whole step is in one place
 // in the machine code (docs/PERFORMANCE.md).
+#[tactic(auto, unfolding(isa::specs::Choice::pick))]
 fn run_lent(
     set: u32,
     program: &[u8],
@@ -92,35 +85,38 @@ fn run_lent(
     ram: &mut [u8],
     state: &mut [u8],
     samples: &[u32],
+    // (A flag: see `shown_ahead` of runs.)
     asked: bool,
-) -> Spent
-    ensures answer { result ≡ spent (run_from set program.now outside.now ram.old state.old samples.now).ran (pick asked (shown_from set program.now outside.now ram.old state.old samples.now) unshown) }
+) -> RunAnswer
+    ensures answer { result ≡ run_answer (run_from set program.now outside.now ram.old state.old samples.now).ran (pick asked (shown_from set program.now outside.now ram.old state.old samples.now) unshown) }
     ensures memory { ram.new ≡ (run_from set program.now outside.now ram.old state.old samples.now).ram }
     ensures left { state.new ≡ after_run state.old (run_from set program.now outside.now ram.old state.old samples.now).ran }
 {
-    let Some(named) = set_named(set) else {
-        return Spent {
-            number: isa::number(Refusal::SetUnknown),
-            used: 0,
-            cycles: 0,
-            shown: runs::nothing_shown(),
-        };
+    let set = match Set::try_from(set) {
+        Ok(set) => set,
+        Err(refusal) => {
+            return RunAnswer {
+                number: u8::from(refusal),
+                used: 0,
+                cycles: 0,
+                shown: runs::nothing_shown(),
+            };
+        }
     };
     let start = bytes::state_of(&state[..]);
     let lent = Lent {
-        set: named,
+        set,
         program,
         outside,
     };
     let p = runs::play(lent, ram, start, samples, asked);
     let r = p.ran;
-    // (Read below in place of here, it takes 127.8 instructions a step of a run: docs/PERFORMANCE.md.)
+    // (Read here and not below, which costs time: docs/PERFORMANCE.md.)
     let shown = p.shown;
-    let used = r.used != 0;
-    if used {
+    if r.used != 0 {
         bytes::hold(state, r.state);
     }
-    Spent {
+    RunAnswer {
         number: number_ended(r.ended),
         used: r.used,
         cycles: r.cycles,
@@ -132,7 +128,7 @@ fn run_lent(
 fn number_ended(ended: Option<Refusal>) -> u8
     ensures { result ≡ number_ended ended }
 {
-    ended.map_or(0, isa::number)
+    ended.map_or(0, u8::from)
 }
 
 #[tactic(auto, unfolding(crate::specs::Calls::totalled, isa::specs::Choice::pick))]
@@ -180,10 +176,11 @@ pub fn mcs48_step(
 {
     let samples = [first, second];
     let r = run_lent(set, program, outside, ram, state, &samples, true);
-    let number = r.number;
-    let shown = r.shown;
-    let event = shown.event;
-    let cycles = (r.cycles % 256) as u8;
-    let used = (r.used % 256) as u8;
-    packing::pack_step(number, cycles, used, shown.outside, event)
+    packing::pack_step(
+        r.number,
+        r.cycles as u8,
+        r.used as u8,
+        r.shown.outside,
+        r.shown.event,
+    )
 }

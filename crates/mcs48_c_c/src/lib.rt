@@ -1,5 +1,6 @@
 #![tactic(auto)]
-// The archive for C: each function of the C interface under its own name, with its promise. mcs48_c says what it does.
+// The archive for C: each function of the C interface under its own name, with its promise. mcs48_c says what it does. (Two crates, since
+// reread links mcs48_c without these exports, and no crate is both a library and an archive.)
 ghost use Rattle.std.specs.Prelude.{◌≡◌, length};
 ghost use Rattle.machine.specs.State.{power_up};
 ghost use Rattle.mcs48_c.specs.Bytes.{holding};

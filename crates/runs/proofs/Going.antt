@@ -10,7 +10,9 @@ use Rattle.machine.specs.declared.State.{State}
 use Rattle.effects.specs.declared.Event.{Event}
 use Rattle.chip.specs.Admission.{lent_of}
 use Rattle.chip.specs.Run.{Progress, begun, ended, run_over}
-use Rattle.chip.specs.Step.{Moved, moved_of, ram_after, step_of}
+use Rattle.chip.specs.Step.{Moved, moved_of, plan_of, ram_after, step_of}
+use Rattle.chip.proofs.Cycles.{one-or-two, cycles-used}
+use Rattle.std.proofs.lemmas.List.{take_rest}
 use Rattle.chip.proofs.Permitted.{still-stands}
 use Rattle.chip.proofs.Runs.{next, run-short, spent, went, halted}
 
@@ -60,3 +62,13 @@ module _ (roms : Roms) {samples ram₀ : List ℕ} {state₀ : State} {left ram 
         (r.number ≡ 0 → ⊥)
         → ended (record { ram = after; state = r.state; used = used; cycles = cycles; events = g.events }) r.number ≡ run_over roms samples (begun ram₀ state₀)
     stops n = sym (halted roms left 0 here r after er el (omega (arith, two)) n) ∙ g.same
+
+-- What an accepted step takes, as the loop's own goals ask for it.
+pub spends :
+    (roms : Roms) (ram : List ℕ) (s : State) (x y : ℕ) → (plan_of roms ram s x y).number ≡ 0
+    → (1 ≤ (plan_of roms ram s x y).used) × ((plan_of roms ram s x y).used ≤ 2) × ((plan_of roms ram s x y).cycles ≤ (plan_of roms ram s x y).used)
+spends roms ram s x y n =
+    let o = one-or-two roms (begun ram s) x y n in
+    (o.0, o.1, cycles-used roms (begun ram s) x y n)
+
+pub ruleset turn = (spends, length-drop, take_rest)

@@ -1,12 +1,10 @@
 -- What a step shows outside is told from the state before it (`showing`): the event by the instruction's code, the bytes by their addresses.
 -- Assumes nothing.
-use Prim.Native.Nat.{ℕ, ◌/◌, ◌%◌, ◌≤◌, ◌<◌}
+use Prim.Native.Nat.{ℕ, ◌/◌, ◌%◌, ◌<◌}
 use mathlib.Core.Bool.{Bool, true, false, ◌||◌, false≢true}
 use mathlib.Core.List.{List, [], ◌∷◌}
 use mathlib.Core.Path.{◌≡◌, refl, sym, ap, ◌∙◌}
-use native.Mathlib.Omega.{arith}
 use lib.Dec.{eqb}
-use lib.ListN.{length, get_or}
 use borrow.Author.Tests.{eqb-true, eqb-false, eq-eqb}
 use Rattle.isa.specs.Choice.{pick, listed}
 use Rattle.isa.specs.Numbers.{Answer, given, refused}
@@ -32,12 +30,15 @@ use Rattle.flow.specs.Stack.{pushed}
 use Rattle.execute.specs.Execute.{executed}
 use Rattle.chip.specs.Outside.{table_bytes, outside_among, from_outside}
 use Rattle.chip.specs.Refusals.{TableByte, of_movp, of_movp3, of_jmpp}
-use Rattle.chip.specs.Run.{unshown, first_shown, first_accepted}
+use Rattle.chip.specs.Run.{unshown}
 use Rattle.chip.specs.Step.{Course, declined, accepted, waits, called, pc_after, done, carried_by, carried, course_by, course, plan_by, outcome_of, report_of, step_of, Shows}
 use Rattle.chip.specs.declared.Report.{Report}
 use Rattle.chip.specs.declared.Turn.{Turn}
 use Rattle.chip.specs.declared.Turn.TheVariants.{Refuse, Reset, Wait, ExternalCall, TimerCall, CarryOut}
 use Rattle.chip.proofs.Cycles.{course-number}
+use Rattle.chip.proofs.Exactly.{small_ram}
+use Rattle.chip.proofs.Runs.{same-or-none, first-unshown, first-taken, lent-unshown}
+use Rattle.chip.proofs.Telling.{some-number}
 
 -- ---- the event
 -- As the code tells it.
@@ -99,24 +100,32 @@ module _ (ram : List ℕ) (s : State) (d next base first second : ℕ) (bytes : 
   by-code Intel = refl
   by-code Nec = refl
 
-  pub event-shown : (set : Set) (b : ℕ) → b < 256 → shown_by b ram s ≡ event_in set b
-  event-shown set b l = everywhere (λ b. shown_by b ram s) (λ b. pick (is_table b) Quiet (event_in set b)) 256 (by-code set) b l ∙ go (is_table b) refl
+  pub event-shown : (set : Set) (b : ℕ) → b < 256 → event_in set b ≡ shown_by b ram s
+  event-shown set b l = sym (everywhere (λ b. shown_by b ram s) (λ b. pick (is_table b) Quiet (event_in set b)) 256 (by-code set) b l ∙ go (is_table b) refl)
     where
       go : (x : Bool) → is_table b ≡ x → pick x Quiet (event_in set b) ≡ event_in set b
       go true h = unfold pick in sym (at-table set b h)
       go false h = unfold pick in refl
 
+-- For the code's attributes, which name no dash.
+pub ruleset events = (event-shown)
+
 -- ---- the instruction at PC
 module _ (roms : Roms) (ram : List ℕ) (s : State) (first : ℕ) (b bytes : ℕ) (event : Event) (n : ℕ)
     (value : b ≡ byte_at (seen_by roms first).bytes s.pc) (entry : bytes ≡ (entry_of roms.set b).bytes) where
+  abbrev taken : List ℕ
+  taken = s.pc ∷ pick (eqb bytes 2) (next_pc s.pc ∷ []) (table_bytes b s.pc s.a)
+
+  -- (ea is what the code's own test of EA answers.)
   pub shows :
-      ((set : Set) (d next base first second : ℕ) (bytes : List ℕ) → event ≡ (executed (instruction_of set b d) bytes ram (running_at s next) base first second).event)
-      → n ≡ outside_among roms.inside (is_high ea_pin first) (s.pc ∷ pick (eqb bytes 2) (next_pc s.pc ∷ []) (table_bytes b s.pc s.a))
+      {ea : Bool} → ea ≡ is_high ea_pin first
+      → ((set : Set) (d next base first second : ℕ) (bytes : List ℕ) → event ≡ (executed (instruction_of set b d) bytes ram (running_at s next) base first second).event)
+      → n ≡ outside_among roms.inside ea taken
       → (second : ℕ) → Shows roms ram s first second (record { event = event; outside = n })
-  shows f g second =
+  shows is f g second =
       record {
         event = λ i k there. told i k (found (seen_by roms first) s.pc i k there);
-        outside = unfold from_outside in g ∙ rw (entry, value);
+        outside = unfold from_outside in g ∙ ap (λ (e : Bool). outside_among roms.inside e taken) is ∙ rw (entry, value);
       }
     where
       told :
@@ -185,19 +194,7 @@ module _ (roms : Roms) (ram : List ℕ) (s : State) (first second : ℕ) where
       in
       rw (by-turn CarryOut e a, ← (carried-event w n), ← w.outside)
 
--- ---- the first step of a run
-module _ (roms : Roms) (ram : List ℕ) (s : State) where
-  pub short-unshown : (xs : List ℕ) → length xs < 2 → first_shown roms ram s xs ≡ unshown
-  unfolding first_shown
-  short-unshown [] l = refl
-  short-unshown (x ∷ []) l = refl
-  short-unshown (x ∷ (y ∷ rest)) l = absurd (omega arith)
+-- For `report_of`, and for `play`.
+pub ruleset reports = (small_ram, shows-nothing)
 
-  pub shown-first :
-      (xs : List ℕ) {r : Report} → 2 ≤ length xs
-      → ((step_of roms ram s (get_or xs 0 0) (get_or xs 1 0)).number ≡ 0 → r ≡ report_of (step_of roms ram s (get_or xs 0 0) (get_or xs 1 0)))
-      → first_accepted roms ram s xs ≡ true → r ≡ first_shown roms ram s xs
-  unfolding first_shown first_accepted
-  shown-first [] l f a = absurd (omega arith)
-  shown-first (x ∷ []) l f a = absurd (omega arith)
-  shown-first (x ∷ (y ∷ rest)) l f a = f (eqb-true _ _ a)
+pub ruleset plays = (some-number, same-or-none, first-unshown, first-taken, lent-unshown)

@@ -13,7 +13,7 @@ use Rattle.isa.specs.Sheet.{kind_of, entry_of, instruction_of}
 use Rattle.isa.specs.declared.Cell.{Cell}
 use Rattle.isa.specs.declared.Cell.TheVariants.{Register, Indirect}
 use Rattle.isa.specs.declared.Source.{Source}
-use Rattle.isa.specs.declared.Source.TheVariants.{FromRegister, FromIndirect, Immediate}
+use Rattle.isa.specs.declared.Source.TheVariants.{FromCell, Immediate}
 use Rattle.isa.specs.declared.Operation.{Operation}
 use Rattle.isa.specs.declared.Operation.TheVariants.{Add, Addc, Anl, Orl, Xrl}
 use Rattle.isa.specs.declared.Unary.{Unary}
@@ -43,8 +43,7 @@ cell_back base (Register r) = base + 8 + r
 cell_back base (Indirect r) = base + r
 
 abbrev source_back : ℕ → ℕ → Source → List ℕ
-source_back base immediate (FromRegister r) = (base + 8 + r) ∷ []
-source_back base immediate (FromIndirect r) = (base + r) ∷ []
+source_back base immediate (FromCell c) = cell_back base c ∷ []
 source_back base immediate (Immediate d) = immediate ∷ d ∷ []
 
 abbrev latch_back : ℕ → ℕ → Latch → ℕ

@@ -15,7 +15,7 @@ use Rattle.isa.specs.Reading.{Sized, sized, under, read_of, instruction_at, deco
 use Rattle.isa.specs.declared.Cell.{Cell}
 use Rattle.isa.specs.declared.Cell.TheVariants.{Register, Indirect}
 use Rattle.isa.specs.declared.Source.{Source}
-use Rattle.isa.specs.declared.Source.TheVariants.{FromRegister, FromIndirect, Immediate}
+use Rattle.isa.specs.declared.Source.TheVariants.{FromCell, Immediate}
 use Rattle.isa.specs.declared.Latch.{Latch}
 use Rattle.isa.specs.declared.Latch.TheVariants.{Bus, Port}
 use Rattle.isa.specs.declared.Flag.{Flag}
@@ -29,7 +29,7 @@ use Rattle.isa.specs.declared.Set.{Set}
 use Rattle.isa.specs.declared.Set.TheVariants.{Intel, Nec}
 use Rattle.isa.proofs.Entries.{within-true}
 use Rattle.isa.proofs.Everywhere.{between}
-use Rattle.writer.specs.Codes.{coded_low, coded_high, alone, with_second, cell_code, source_code, latch_code, flag_code, nec_code}
+use Rattle.writer.specs.Codes.{coded, coded_high, alone, with_second, cell_code, source_code, latch_code, flag_code, nec_code}
 use Rattle.isa.specs.Sets.{Without}
 use Rattle.writer.specs.Writing.{unknown, too_large, Writes, encoded_as, holds, cell_holds, source_holds, latch_holds, far_holds}
 use Rattle.writer.specs.declared.Encoded.{Encoded}
@@ -82,34 +82,24 @@ module _
 -- The laws of the families. In each the last premises are what an arm of the writer knows: which instruction it writes, and what the
 -- functions that it calls gave.
 
--- An operand in bits 0-2.
-module _ (base low high : ℕ) where
-  pub low-writes :
+-- An operand on top of a base, times its weight.
+module _ (base weight low high : ℕ) where
+  pub coded-writes :
       (make : ℕ → Instruction) → ((k : ℕ) → within low high k ≡ false → holds (make k) ≡ false)
-      → listed (λ k. known (base + k) 0) (suc high - low) low ≡ listed (λ k. sized (make k) 1) (suc high - low) low
-      → {i : Instruction} {v : Result ℕ Refusal} {w : Result Encoded Refusal} {k : ℕ} → i ≡ make k → v ≡ coded_low base low high k
+      → listed (λ k. known (base + weight * k) 0) (suc high - low) low ≡ listed (λ k. sized (make k) 1) (suc high - low) low
+      → {i : Instruction} {v : Result ℕ Refusal} {w : Result Encoded Refusal} {k : ℕ} → i ≡ make k → v ≡ coded base weight low high k
       → w ≡ alone v → (set : Set) → Writes set i (encoded_as w)
-  low-writes make outside e {k = k} p q r =
-      rw (p, r, q) (operand-writes 0 1 alone refl reads-one (λ k. base + k) low high make outside e k)
+  coded-writes make outside e {k = k} p q r =
+      rw (p, r, q) (operand-writes 0 1 alone refl reads-one (λ k. base + weight * k) low high make outside e k)
 
-  pub low-writes-two :
+  pub coded-writes-two :
       (make : ℕ → ℕ → Instruction) → ((k d : ℕ) → within low high k ≡ false → holds (make k d) ≡ false)
-      → ((d : ℕ) → listed (λ k. known (base + k) d) (suc high - low) low ≡ listed (λ k. sized (make k d) 2) (suc high - low) low)
-      → {i : Instruction} {v : Result ℕ Refusal} {w : Result Encoded Refusal} {k d : ℕ} → i ≡ make k d → v ≡ coded_low base low high k
+      → ((d : ℕ) → listed (λ k. known (base + weight * k) d) (suc high - low) low ≡ listed (λ k. sized (make k d) 2) (suc high - low) low)
+      → {i : Instruction} {v : Result ℕ Refusal} {w : Result Encoded Refusal} {k d : ℕ} → i ≡ make k d → v ≡ coded base weight low high k
       → w ≡ with_second v d → (set : Set) → Writes set i (encoded_as w)
-  low-writes-two make outside e {k = k} {d} p q r =
+  coded-writes-two make outside e {k = k} {d} p q r =
       rw (p, r, q)
-      (operand-writes d 2 (λ v. with_second v d) refl (λ b. reads_two b d) (λ k. base + k) low high (λ k. make k d) (λ k. outside k d) (e d) k)
-
--- An operand in bits 5-7, with a second byte.
-pub high-writes :
-    (base : ℕ) (make : ℕ → ℕ → Instruction) → ((k d : ℕ) → within 0 7 k ≡ false → holds (make k d) ≡ false)
-    → ((d : ℕ) → listed (λ k. known (base + 32 * k) d) 8 0 ≡ listed (λ k. sized (make k d) 2) 8 0)
-    → {i : Instruction} {v : Result ℕ Refusal} {w : Result Encoded Refusal} {k d : ℕ} → i ≡ make k d → v ≡ coded_high base k → w ≡ with_second v d
-    → (set : Set) → Writes set i (encoded_as w)
-high-writes base make outside e {k = k} {d} p q r =
-    rw (p, r, q)
-    (operand-writes d 2 (λ v. with_second v d) refl (λ b. reads_two b d) (λ k. base + 32 * k) 0 7 (λ k. make k d) (λ k. outside k d) (e d) k)
+      (operand-writes d 2 (λ v. with_second v d) refl (λ b. reads_two b d) (λ k. base + weight * k) low high (λ k. make k d) (λ k. outside k d) (e d) k)
 
 -- JMP and CALL: bits 8-10 of the address stand in bits 5-7 of the code.
 pub far-writes :
@@ -119,7 +109,7 @@ pub far-writes :
     → (set : Set) → Writes set i (encoded_as w)
 far-writes base make far e {a = a} p q r =
     let whole : a / 256 * 256 + a % 256 ≡ a = omega arith in
-    high-writes base (λ k d. make (k * 256 + d)) (λ k d h. far (k * 256 + d) ∙ too-far k d h) e (p ∙ ap make (sym whole)) q r
+    coded-writes-two base 32 0 7 (λ k d. make (k * 256 + d)) (λ k d h. far (k * 256 + d) ∙ too-far k d h) e (p ∙ ap make (sym whole)) q r
   where
     too-far : (k d : ℕ) → within 0 7 k ≡ false → far_holds (k * 256 + d) ≡ false
     too-far k d h =
@@ -134,30 +124,28 @@ pub cell-writes :
     → {i : Instruction} {v : Result ℕ Refusal} {w : Result Encoded Refusal} {c : Cell} → i ≡ make c → v ≡ cell_code base c → w ≡ alone v
     → (set : Set) → Writes set i (encoded_as w)
 cell-writes base make held er ei {c = Register k} p q r =
-    low-writes (base + 8) 0 7 (λ k. make (Register k)) (λ k h. held (Register k) ∙ h) er p q r
+    coded-writes (base + 8) 1 0 7 (λ k. make (Register k)) (λ k h. held (Register k) ∙ h) er p q r
 cell-writes base make held er ei {c = Indirect k} p q r =
-    low-writes base 0 1 (λ k. make (Indirect k)) (λ k h. held (Indirect k) ∙ h) ei p q r
+    coded-writes base 1 0 1 (λ k. make (Indirect k)) (λ k h. held (Indirect k) ∙ h) ei p q r
 
 -- MOV Rr,#data and MOV @Rr,#data.
 pub mov-data-writes :
     {i : Instruction} {v : Result ℕ Refusal} {w : Result Encoded Refusal} {c : Cell} {d : ℕ} → i ≡ MovData c d → v ≡ cell_code 0xB0 c → w ≡ with_second v d
     → (set : Set) → Writes set i (encoded_as w)
 unfolding entry_of kind_of pick
-mov-data-writes {c = Register r} = low-writes-two 0xB8 0 7 (λ k d. MovData (Register k) d) (λ k d h. rw h) (λ d. refl)
-mov-data-writes {c = Indirect r} = low-writes-two 0xB0 0 1 (λ k d. MovData (Indirect k) d) (λ k d h. rw h) (λ d. refl)
+mov-data-writes {c = Register r} = coded-writes-two 0xB8 1 0 7 (λ k d. MovData (Register k) d) (λ k d h. rw h) (λ d. refl)
+mov-data-writes {c = Indirect r} = coded-writes-two 0xB0 1 0 1 (λ k d. MovData (Indirect k) d) (λ k d h. rw h) (λ d. refl)
 
 -- Rr, @Rr and #data.
 pub source-writes :
     (base immediate : ℕ) (make : Source → Instruction) → ((s : Source) → holds (make s) ≡ source_holds s)
-    → listed (λ k. known (base + 8 + k) 0) 8 0 ≡ listed (λ k. sized (make (FromRegister k)) 1) 8 0
-    → listed (λ k. known (base + k) 0) 2 0 ≡ listed (λ k. sized (make (FromIndirect k)) 1) 2 0
+    → listed (λ k. known (base + 8 + k) 0) 8 0 ≡ listed (λ k. sized (make (FromCell (Register k))) 1) 8 0
+    → listed (λ k. known (base + k) 0) 2 0 ≡ listed (λ k. sized (make (FromCell (Indirect k))) 1) 2 0
     → ((d : ℕ) → known immediate d ≡ sized (make (Immediate d)) 2)
     → {i : Instruction} {w : Result Encoded Refusal} {s : Source} → i ≡ make s → w ≡ source_code base immediate s
     → (set : Set) → Writes set i (encoded_as w)
-source-writes base immediate make held er ei ed {s = FromRegister r} p q =
-    low-writes (base + 8) 0 7 (λ k. make (FromRegister k)) (λ k h. held (FromRegister k) ∙ h) er p refl q
-source-writes base immediate make held er ei ed {s = FromIndirect r} p q =
-    low-writes base 0 1 (λ k. make (FromIndirect k)) (λ k h. held (FromIndirect k) ∙ h) ei p refl q
+source-writes base immediate make held er ei ed {s = FromCell c} p q =
+    cell-writes base (λ c. make (FromCell c)) (λ c. held (FromCell c)) er ei p refl q
 source-writes base immediate make held er ei ed {s = Immediate d} p q = rw (p, q) (reads_two immediate d (make (Immediate d)) (ed d))
 
 -- BUS and Pp.
@@ -168,7 +156,7 @@ pub latch-writes :
     → (set : Set) → Writes set i (encoded_as w)
 latch-writes bus base make held eb ep {l = Bus} p q r = rw (p, r, q) (reads-one bus (make Bus) eb)
 latch-writes bus base make held eb ep {l = Port n} p q r =
-    low-writes base 1 2 (λ k. make (Port k)) (λ k h. held (Port k) ∙ h) ep p q r
+    coded-writes base 1 1 2 (λ k. make (Port k)) (λ k h. held (Port k) ∙ h) ep p q r
 
 -- ANL and ORL on BUS and Pp, with the data behind the code.
 pub logic-writes :
@@ -178,7 +166,7 @@ pub logic-writes :
     → Writes set (Logic o l d) (encoded_as (with_second v d))
 logic-writes base op eb ep Bus p q set d = rw (p, q) (reads_two base d (Logic op Bus d) (eb d) set)
 logic-writes base op eb ep (Port n) p q set d =
-    rw p (low-writes-two base 1 2 (λ k d. Logic op (Port k) d) (λ k d h. rw h) ep refl q refl set)
+    rw p (coded-writes-two base 1 1 2 (λ k d. Logic op (Port k) d) (λ k d h. rw h) ep refl q refl set)
 
 -- A conditional jump, ANL and ORL on a latch: the function called gave the code, for any second byte.
 pub second-writes :

@@ -10,7 +10,7 @@ use Rattle.isa.specs.declared.Refusal.TheVariants.{UndefinedCode, OperandTooLarg
 use Rattle.isa.specs.declared.Cell.{Cell}
 use Rattle.isa.specs.declared.Cell.TheVariants.{Register, Indirect}
 use Rattle.isa.specs.declared.Source.{Source}
-use Rattle.isa.specs.declared.Source.TheVariants.{FromRegister, FromIndirect, Immediate}
+use Rattle.isa.specs.declared.Source.TheVariants.{FromCell, Immediate}
 use Rattle.isa.specs.declared.Latch.{Latch}
 use Rattle.isa.specs.declared.Latch.TheVariants.{Bus, Port}
 use Rattle.isa.specs.declared.Set.{Set}
@@ -22,13 +22,17 @@ use Rattle.writer.specs.declared.Encoded.TheVariants.{One, Two}
 abbrev pub held : ℕ → ℕ → ℕ → Result ℕ Refusal
 held low high k = pick (within low high k) (Ok k) (Err OperandTooLarge)
 
+-- On top of a base, times its weight: 1 for bits 0-2, 32 for bits 5-7.
+abbrev pub coded : ℕ → ℕ → ℕ → ℕ → ℕ → Result ℕ Refusal
+coded base weight low high k = pick (within low high k) (Ok (base + weight * k)) (Err OperandTooLarge)
+
 -- In bits 0-2, a number from low to high.
 abbrev pub coded_low : ℕ → ℕ → ℕ → ℕ → Result ℕ Refusal
-coded_low base low high k = pick (within low high k) (Ok (base + k)) (Err OperandTooLarge)
+coded_low base low high k = coded base 1 low high k
 
 -- In bits 5-7.
 abbrev pub coded_high : ℕ → ℕ → Result ℕ Refusal
-coded_high base k = pick (within 0 7 k) (Ok (base + 32 * k)) (Err OperandTooLarge)
+coded_high base k = coded base 32 0 7 k
 
 -- A code by itself.
 abbrev pub alone : Result ℕ Refusal → Result Encoded Refusal
@@ -45,8 +49,7 @@ cell_code base (Register r) = coded_low (base + 8) 0 7 r
 cell_code base (Indirect r) = coded_low base 0 1 r
 
 abbrev pub source_code : ℕ → ℕ → Source → Result Encoded Refusal
-source_code base immediate (FromRegister r) = alone (coded_low (base + 8) 0 7 r)
-source_code base immediate (FromIndirect r) = alone (coded_low base 0 1 r)
+source_code base immediate (FromCell c) = alone (cell_code base c)
 source_code base immediate (Immediate d) = Ok (Two immediate d)
 
 abbrev pub latch_code : ℕ → ℕ → Latch → Result ℕ Refusal

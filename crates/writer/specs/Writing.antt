@@ -9,7 +9,7 @@ use Rattle.isa.specs.Sets.{Without}
 use Rattle.isa.specs.declared.Cell.{Cell}
 use Rattle.isa.specs.declared.Cell.TheVariants.{Register, Indirect}
 use Rattle.isa.specs.declared.Source.{Source}
-use Rattle.isa.specs.declared.Source.TheVariants.{FromRegister, FromIndirect, Immediate}
+use Rattle.isa.specs.declared.Source.TheVariants.{FromCell, Immediate}
 use Rattle.isa.specs.declared.Condition.{Condition}
 use Rattle.isa.specs.declared.Condition.TheVariants.{Jb, Jc, Jf0, Jf1, Jnc, Jni, Jnt0, Jnt1, Jnz, Jtf, Jt0, Jt1, Jz}
 use Rattle.isa.specs.declared.Latch.{Latch}
@@ -34,8 +34,7 @@ cell_holds (Register r) = within 0 7 r
 cell_holds (Indirect r) = within 0 1 r
 
 abbrev pub source_holds : Source → Bool
-source_holds (FromRegister r) = within 0 7 r
-source_holds (FromIndirect r) = within 0 1 r
+source_holds (FromCell c) = cell_holds c
 source_holds (Immediate d) = byte_holds d
 
 abbrev pub latch_holds : Latch → Bool

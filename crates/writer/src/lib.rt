@@ -1,10 +1,10 @@
 #![tactic(auto)]
 // The instruction writer: the bytes of an instruction. Its codes stand here and in isa's sheet, and each is proved to be the sheet's.
-ghost use Rattle.std.specs.Prelude.{◌≡◌, [], ◌∷◌, ℕ, ◌+◌, ◌≤◌, ◌<◌};
+ghost use Rattle.std.specs.Prelude.{◌≡◌, [], ◌∷◌, ℕ, ◌+◌, ◌*◌, ◌≤◌, ◌<◌};
 ghost use Rattle.isa.specs.Numbers.{given};
 ghost use Rattle.isa.specs.declared.Set.{Set};
 ghost use Rattle.isa.specs.declared.Instruction.TheVariants.{Alu, Accumulator, Branch, Control, Logic, Expander};
-ghost use Rattle.writer.specs.Codes.{held, coded_low, coded_high, alone, with_second, cell_code, source_code, latch_code, flag_code, nec_code};
+ghost use Rattle.writer.specs.Codes.{held, coded, alone, with_second, cell_code, source_code, latch_code, flag_code, nec_code};
 ghost use Rattle.writer.specs.Writing.{Writes, encoded_as};
 
 use isa::{
@@ -24,48 +24,20 @@ pub enum Encoded {
 fn held(low: u8, high: u8, k: u8) -> Result<u8, Refusal>
     ensures { result ≡ held low high k }
 {
-    if k < low {
-        return Err(Refusal::OperandTooLarge);
+    if k < low || high < k {
+        Err(Refusal::OperandTooLarge)
+    } else {
+        Ok(k)
     }
-    let large = high < k;
-    if large {
-        return Err(Refusal::OperandTooLarge);
-    }
-    Ok(k)
 }
 
-// The code `base` with the number k in its low bits, if k is from `low` to `high`.
+// The code `base` with the number k in it, if k is from `low` to `high`: in bits 0-2 for weight 1, in bits 5-7 for weight 32.
 #[tactic(auto, unfolding(isa::specs::Choice::pick))]
-fn coded_low(base: u8, low: u8, high: u8, k: u8) -> Result<u8, Refusal>
-    requires { base + high < 256 }
-    ensures { result ≡ coded_low base low high k }
+fn coded(base: u8, weight: u8, low: u8, high: u8, k: u8) -> Result<u8, Refusal>
+    requires { base + weight * high < 256 }
+    ensures { result ≡ coded base weight low high k }
 {
-    let k = held(low, high, k)?;
-    Ok(base + k)
-}
-
-// The code `base` with the number k in bits 5-7, if k is at most 7.
-#[tactic(auto, unfolding(isa::specs::Choice::pick))]
-fn coded_high(base: u8, k: u8) -> Result<u8, Refusal>
-    requires { base < 32 }
-    ensures { result ≡ coded_high base k }
-{
-    let k = held(0, 7, k)?;
-    Ok(base + 32 * k)
-}
-
-// A code by itself.
-fn alone(code: Result<u8, Refusal>) -> Result<Encoded, Refusal>
-    ensures { result ≡ alone code }
-{
-    Ok(Encoded::One(code?))
-}
-
-// A second byte behind a code.
-fn with_second(code: Result<u8, Refusal>, d: u8) -> Result<Encoded, Refusal>
-    ensures { result ≡ with_second code d }
-{
-    Ok(Encoded::Two(code?, d))
+    Ok(base + weight * held(low, high, k)?)
 }
 
 // Rr in the lower half of a row of codes, @Rr in its first two.
@@ -74,8 +46,8 @@ fn cell_code(base: u8, c: Cell) -> Result<u8, Refusal>
     ensures { result ≡ cell_code base c }
 {
     match c {
-        Cell::Register(r) => coded_low(base + 8, 0, 7, r),
-        Cell::Indirect(r) => coded_low(base, 0, 1, r),
+        Cell::Register(r) => coded(base + 8, 1, 0, 7, r),
+        Cell::Indirect(r) => coded(base, 1, 0, 1, r),
     }
 }
 
@@ -85,8 +57,7 @@ fn source_code(base: u8, immediate: u8, s: Source) -> Result<Encoded, Refusal>
     ensures { result ≡ source_code base immediate s }
 {
     match s {
-        Source::FromRegister(r) => alone(cell_code(base, Cell::Register(r))),
-        Source::FromIndirect(r) => alone(cell_code(base, Cell::Indirect(r))),
+        Source::FromCell(c) => cell_code(base, c).map(Encoded::One),
         Source::Immediate(d) => Ok(Encoded::Two(immediate, d)),
     }
 }
@@ -97,7 +68,7 @@ fn latch_code(bus: u8, base: u8, l: Latch) -> Result<u8, Refusal>
 {
     match l {
         Latch::Bus => Ok(bus),
-        Latch::Port(p) => coded_low(base, 1, 2, p),
+        Latch::Port(p) => coded(base, 1, 1, 2, p),
     }
 }
 
@@ -149,7 +120,7 @@ fn condition_code(c: Condition) -> Result<u8, Refusal>
     ensures { (set : Set) (d : ℕ) → Writes set (Branch c d) (encoded_as (with_second result d)) }
 {
     match c {
-        Condition::Jb(b) => coded_high(0x12, b),
+        Condition::Jb(b) => coded(0x12, 32, 0, 7, b),
         Condition::Jc => Ok(0xF6),
         Condition::Jf0 => Ok(0xB6),
         Condition::Jf1 => Ok(0x76),
@@ -199,14 +170,14 @@ fn digit_move_code(op: DigitMove, p: u8) -> Result<u8, Refusal>
     ensures { (set : Set) → Writes set (Expander op p) (encoded_as (alone result)) }
 {
     match op {
-        DigitMove::MovdRead => coded_low(0x08, 4, 7, p),
-        DigitMove::MovdWrite => coded_low(0x38, 4, 7, p),
-        DigitMove::Orld => coded_low(0x88, 4, 7, p),
-        DigitMove::Anld => coded_low(0x98, 4, 7, p),
+        DigitMove::MovdRead => coded(0x08, 1, 4, 7, p),
+        DigitMove::MovdWrite => coded(0x38, 1, 4, 7, p),
+        DigitMove::Orld => coded(0x88, 1, 4, 7, p),
+        DigitMove::Anld => coded(0x98, 1, 4, 7, p),
     }
 }
 
-// A code that NEC alone has; 4 under Intel.
+// A code that NEC alone has; under Intel it is undefined.
 fn nec_code(set: Set, code: u8) -> Result<u8, Refusal>
     ensures { result ≡ nec_code set code }
 {
@@ -224,37 +195,43 @@ pub fn write(set: Set, i: Instruction) -> Result<Encoded, Refusal>
     match i {
         Instruction::Alu(op, s) => operation_code(op, s),
         Instruction::Accumulator(op) => Ok(Encoded::One(unary_code(op))),
-        Instruction::Djnz(r, d) => with_second(coded_low(0xE8, 0, 7, r), d),
-        Instruction::Branch(c, d) => with_second(condition_code(c), d),
-        Instruction::Jmp(a) => with_second(coded_high(0x04, (a / 256) as u8), (a % 256) as u8),
+        Instruction::Djnz(r, d) => coded(0xE8, 1, 0, 7, r).map(|code| Encoded::Two(code, d)),
+        Instruction::Branch(c, d) => condition_code(c).map(|code| Encoded::Two(code, d)),
+        Instruction::Jmp(a) => {
+            let [high, low] = a.to_be_bytes();
+            coded(0x04, 32, 0, 7, high).map(|code| Encoded::Two(code, low))
+        },
         Instruction::Jmpp => Ok(Encoded::One(0xB3)),
         Instruction::Control(op) => Ok(Encoded::One(switch_code(op))),
         Instruction::MovA(s) => source_code(0xF0, 0x23, s),
-        Instruction::Mov(c) => alone(cell_code(0xA0, c)),
-        Instruction::MovData(c, d) => with_second(cell_code(0xB0, c), d),
+        Instruction::Mov(c) => cell_code(0xA0, c).map(Encoded::One),
+        Instruction::MovData(c, d) => cell_code(0xB0, c).map(|code| Encoded::Two(code, d)),
         Instruction::MovAPsw => Ok(Encoded::One(0xC7)),
         Instruction::MovPswA => Ok(Encoded::One(0xD7)),
         Instruction::Movp => Ok(Encoded::One(0xA3)),
         Instruction::Movp3 => Ok(Encoded::One(0xE3)),
-        Instruction::MovxRead(r) => alone(coded_low(0x80, 0, 1, r)),
-        Instruction::MovxWrite(r) => alone(coded_low(0x90, 0, 1, r)),
-        Instruction::Xch(c) => alone(cell_code(0x20, c)),
-        Instruction::Xchd(r) => alone(coded_low(0x30, 0, 1, r)),
+        Instruction::MovxRead(r) => coded(0x80, 1, 0, 1, r).map(Encoded::One),
+        Instruction::MovxWrite(r) => coded(0x90, 1, 0, 1, r).map(Encoded::One),
+        Instruction::Xch(c) => cell_code(0x20, c).map(Encoded::One),
+        Instruction::Xchd(r) => coded(0x30, 1, 0, 1, r).map(Encoded::One),
         Instruction::Cpl(f) => Ok(Encoded::One(flag_code(0xA7, 0x95, 0xB5, f))),
         Instruction::Clr(f) => Ok(Encoded::One(flag_code(0x97, 0x85, 0xA5, f))),
-        Instruction::Logic(op, l, d) => with_second(logic_code(op, l), d),
-        Instruction::In(l) => alone(latch_code(0x08, 0x08, l)),
-        Instruction::Outl(l) => alone(latch_code(0x02, 0x38, l)),
-        Instruction::Expander(op, p) => alone(digit_move_code(op, p)),
-        Instruction::Dec(r) => alone(coded_low(0xC8, 0, 7, r)),
-        Instruction::Inc(c) => alone(cell_code(0x10, c)),
-        Instruction::Call(a) => with_second(coded_high(0x14, (a / 256) as u8), (a % 256) as u8),
+        Instruction::Logic(op, l, d) => logic_code(op, l).map(|code| Encoded::Two(code, d)),
+        Instruction::In(l) => latch_code(0x08, 0x08, l).map(Encoded::One),
+        Instruction::Outl(l) => latch_code(0x02, 0x38, l).map(Encoded::One),
+        Instruction::Expander(op, p) => digit_move_code(op, p).map(Encoded::One),
+        Instruction::Dec(r) => coded(0xC8, 1, 0, 7, r).map(Encoded::One),
+        Instruction::Inc(c) => cell_code(0x10, c).map(Encoded::One),
+        Instruction::Call(a) => {
+            let [high, low] = a.to_be_bytes();
+            coded(0x14, 32, 0, 7, high).map(|code| Encoded::Two(code, low))
+        },
         Instruction::Ret => Ok(Encoded::One(0x83)),
         Instruction::Retr => Ok(Encoded::One(0x93)),
         Instruction::MovAT => Ok(Encoded::One(0x42)),
         Instruction::MovTA => Ok(Encoded::One(0x62)),
         Instruction::Nop => Ok(Encoded::One(0x00)),
-        Instruction::Halt => alone(nec_code(set, 0x01)),
-        Instruction::Stop => alone(nec_code(set, 0x82)),
+        Instruction::Halt => nec_code(set, 0x01).map(Encoded::One),
+        Instruction::Stop => nec_code(set, 0x82).map(Encoded::One),
     }
 }

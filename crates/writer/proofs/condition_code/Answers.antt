@@ -5,9 +5,9 @@ use Rattle.isa.specs.Choice.{pick}
 use Rattle.isa.specs.Sheet.{kind_of, entry_of}
 use Rattle.isa.specs.declared.Condition.TheVariants.{Jb}
 use Rattle.isa.specs.declared.Instruction.TheVariants.{Branch}
-use Rattle.writer.proofs.Families.{high-writes}
+use Rattle.writer.proofs.Families.{coded-writes-two}
 use Rattle.writer.proofs.condition_code.Goals as goal
 
 pub returns-in-Jb : goal.returns-in-Jb
 unfolding entry_of kind_of pick
-returns-in-Jb = (λ c set d. rw c.in-Jb.is (high-writes 0x12 (λ k d. Branch (Jb k) d) (λ k d h. rw h) (λ d. refl) refl c.coded_high.ensures refl set))
+returns-in-Jb = (λ c set d. rw c.in-Jb.is (coded-writes-two 0x12 32 0 7 (λ k d. Branch (Jb k) d) (λ k d h. rw h) (λ d. refl) refl c.coded.ensures refl set))
