@@ -7,6 +7,7 @@ pub mod Fresh
 pub mod Lasting
 pub mod Linking
 pub mod Modes
+pub mod Once
 pub mod Overflows
 pub mod Permitted
 pub mod Runs

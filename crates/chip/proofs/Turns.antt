@@ -17,7 +17,7 @@ use Rattle.machine.specs.declared.State.{State}
 use Rattle.chip.specs.Admission.{sample_allowed, lent_of}
 use Rattle.chip.specs.Step.{external_calls, timer_calls, course_by, course}
 use Rattle.chip.specs.declared.Turn.{Turn}
-use Rattle.chip.specs.declared.Turn.TheVariants.{Refuse, Wait, TimerCall, CarryOut}
+use Rattle.chip.specs.declared.Turn.TheVariants.{Refuse, Reset, Wait, ExternalCall, TimerCall, CarryOut}
 use Rattle.chip.proofs.Exactly.{samples-decide}
 
 not-low : (pin sample : ℕ) → is_high pin sample ≡ true → is_low pin sample ≡ false
@@ -46,6 +46,23 @@ awake HaltMode h = absurd (false≢true h)
 awake StopMode h = absurd (false≢true h)
 awake Released h = refl
 
+-- Where it runs, what is left of a call's condition decides; just released, none is called.
+module _ (s : State) where
+  pub running-external :
+      (first : ℕ) {b : Bool} → s.mode ≡ Running → (not s.interrupts.service && s.interrupts.external && is_low int_pin first) ≡ b
+      → external_calls s first ≡ b
+  running-external first e h = rw e h
+
+  pub running-timer :
+      {b : Bool} → s.mode ≡ Running → (not s.interrupts.service && s.interrupts.tcnti && s.request) ≡ b → timer_calls s ≡ b
+  running-timer e h = rw e h
+
+  pub released-external : (first : ℕ) → s.mode ≡ Released → external_calls s first ≡ false
+  released-external first e = rw e
+
+  pub released-timer : s.mode ≡ Released → timer_calls s ≡ false
+  released-timer e = rw e
+
 module _ (roms : Roms) (ram : List ℕ) (s : State) (first second : ℕ) (lent : lent_of roms ram s ≡ 0) where
   abbrev pub allowed : Bool
   allowed = sample_allowed first && sample_allowed second
@@ -57,9 +74,17 @@ module _ (roms : Roms) (ram : List ℕ) (s : State) (first second : ℕ) (lent :
   unfolding course pick
   refuses a = rw (samples-decide roms ram s first second lent, a)
 
+  pub resets : allowed ≡ true → is_low reset_pin first ≡ true → Takes Reset
+  unfolding course pick
+  resets a r = rw (samples-decide roms ram s first second lent, a, r)
+
   pub waits-in : allowed ≡ true → is_low reset_pin first ≡ false → is_waiting s.mode ≡ true → Takes Wait
   unfolding course pick
   waits-in a r w = rw (samples-decide roms ram s first second lent, a, r, w)
+
+  pub calls-external : allowed ≡ true → is_low reset_pin first ≡ false → is_waiting s.mode ≡ false → external_calls s first ≡ true → Takes ExternalCall
+  unfolding course pick
+  calls-external a r w e = rw (samples-decide roms ram s first second lent, a, r, w, e)
 
   pub calls-timer :
       allowed ≡ true → is_low reset_pin first ≡ false → is_waiting s.mode ≡ false → external_calls s first ≡ false → timer_calls s ≡ true

@@ -1,48 +1,20 @@
--- Two outcomes that meet the statement of a step, or of a run, are equal, and so are the RAMs that they leave.
+-- Two outcomes that meet the statement of a step, of a run, or of a play, are equal, and so are the RAMs that they leave.
 -- Assumes nothing.
 use Prim.Native.Nat.{ℕ}
+use mathlib.Core.Bool.{Bool}
 use mathlib.Core.List.{List}
-use mathlib.Core.Path.{◌≡◌, refl, sym, ap, ◌∙◌}
-use Rattle.std.specs.Prelude.{Option, Some, None, Result, Ok, Err}
+use mathlib.Core.Path.{◌≡◌}
+use Rattle.std.specs.Prelude.{Result}
 use Rattle.isa.specs.declared.Refusal.{Refusal}
-use Rattle.isa.proofs.Once.{once, one-number}
+use Rattle.isa.proofs.Once.{once}
 use Rattle.machine.specs.Rom.{Roms}
 use Rattle.machine.specs.declared.State.{State}
-use Rattle.chip.specs.Run.{Ran, number_ended, ran_as, run_of}
-use Rattle.chip.specs.Step.{Outcome, outcome_by, step_of, ram_after}
+use Rattle.chip.specs.Run.{ran_as, played_as, played_of, run_of}
+use Rattle.chip.specs.Step.{outcome_by, step_of, ram_after}
 use Rattle.chip.specs.declared.Outcome as code_outcome
+use Rattle.chip.specs.declared.Played as code_played
 use Rattle.chip.specs.declared.Ran as code_ran
-use Rattle.chip.proofs.Telling.{some-number}
-
--- What the code answers is told by its number and values.
-outcome-back : Outcome → code_outcome.Outcome
-outcome-back o =
-    record {
-      moved = record { state = o.state; cycles = o.cycles; used = o.used };
-      shown = record { event = o.event; outside = o.outside };
-    }
-
-outcome-by-once : (s : State) (r r' : Result code_outcome.Outcome Refusal) → outcome_by s r ≡ outcome_by s r' → r ≡ r'
-unfolding outcome-back
-outcome-by-once s (Ok o) (Ok o') e = ap (λ (o : Outcome). Ok (outcome-back o)) e
-outcome-by-once s (Ok o) (Err x) e = absurd (some-number x (sym (ap (λ (o : Outcome). o.number) e)))
-outcome-by-once s (Err x) (Ok o) e = absurd (some-number x (ap (λ (o : Outcome). o.number) e))
-outcome-by-once s (Err x) (Err y) e = ap Err (one-number x y (ap (λ (o : Outcome). o.number) e))
-
-number-ended-once : (x y : Option Refusal) → number_ended x ≡ number_ended y → x ≡ y
-number-ended-once None None e = refl
-number-ended-once None (Some y) e = absurd (some-number y (sym e))
-number-ended-once (Some x) None e = absurd (some-number x e)
-number-ended-once (Some x) (Some y) e = ap Some (one-number x y e)
-
-ran-back : Option Refusal → Ran → code_ran.Ran
-ran-back ended r = record { ended = ended; state = r.state; used = r.used; cycles = r.cycles }
-
-ran-as-once : (r r' : code_ran.Ran) → ran_as r ≡ ran_as r' → r ≡ r'
-unfolding ran-back
-ran-as-once r r' e =
-    ap (λ (x : Ran). ran-back r.ended x) e
-    ∙ ap (λ (ended : Option Refusal). ran-back ended (ran_as r')) (number-ended-once r.ended r'.ended (ap (λ (x : Ran). x.number) e))
+use Rattle.chip.proofs.Once.{outcome-by-once, ran-as-once, played-as-once}
 
 pub step-once :
     (roms : Roms) (ram : List ℕ) (s : State) (first second : ℕ) {r r' : Result code_outcome.Outcome Refusal} {m m' : List ℕ}
@@ -55,3 +27,9 @@ pub run-once :
     → ran_as r ≡ (run_of roms ram s samples).ran → m ≡ (run_of roms ram s samples).ram
     → ran_as r' ≡ (run_of roms ram s samples).ran → m' ≡ (run_of roms ram s samples).ram → (r ≡ r') × (m ≡ m')
 run-once roms ram s samples {r} {r'} p q p' q' = (ran-as-once r r' (once p p'), once q q')
+
+pub play-once :
+    (asked : Bool) (roms : Roms) (ram : List ℕ) (s : State) (samples : List ℕ) {p p' : code_played.Played} {m m' : List ℕ}
+    → played_as p ≡ played_of asked roms ram s samples → m ≡ (run_of roms ram s samples).ram
+    → played_as p' ≡ played_of asked roms ram s samples → m' ≡ (run_of roms ram s samples).ram → (p ≡ p') × (m ≡ m')
+play-once asked roms ram s samples {p} {p'} h q h' q' = (played-as-once p p' (once h h'), once q q')

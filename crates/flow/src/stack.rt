@@ -19,7 +19,7 @@ pub fn push(s: State, ram: &mut [u8], to: u16) -> Effect
     memory::store(ram, at + 1, high % 16 + s.psw / 16 * 16);
     effects::quiet_effect(State {
         pc: to,
-        psw: psw::with_sp(s.psw, (psw::sp(s.psw) + 1) % 8),
+        psw: psw::with_sp(s.psw, psw::sp(s.psw) + 1),
         ..s
     })
 }
@@ -53,10 +53,10 @@ pub fn ret(s: State, ram: &[u8]) -> State
     requires { 64 ≤ length ram.now }
     ensures { result ≡ returned s ram.now }
 {
-    let top = pop(s, ram);
+    let Popped { sp, pc, .. } = pop(s, ram);
     State {
-        pc: top.pc,
-        psw: psw::with_sp(s.psw, top.sp),
+        pc,
+        psw: psw::with_sp(s.psw, sp),
         ..s
     }
 }
@@ -65,10 +65,10 @@ pub fn retr(s: State, ram: &[u8]) -> State
     requires { 64 ≤ length ram.now }
     ensures { result ≡ restored s ram.now }
 {
-    let top = pop(s, ram);
+    let Popped { sp, pc, upper } = pop(s, ram);
     State {
-        pc: top.pc,
-        psw: top.upper + s.psw / 8 % 2 * 8 + top.sp,
+        pc,
+        psw: upper + s.psw / 8 % 2 * 8 + sp,
         interrupts: Interrupts {
             service: false,
             ..s.interrupts

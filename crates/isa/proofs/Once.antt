@@ -1,4 +1,4 @@
--- Two answers that meet one statement are equal, for each public routine. `next_pc`, `number` and `made` state their result by an equation,
+-- Two answers that meet one statement are equal, for each public routine. `next_pc`, `u8::from` and `made` state their result by an equation,
 -- r ≡ x, so that two are equal by `once`. `entry_of` states the entry of its answer, and that one that it gives has a length; `read` states
 -- the number and the values of its answer: from these the answer follows.
 -- Assumes nothing.

@@ -1,5 +1,5 @@
 // A line while it is made.
-ghost use Rattle.std.specs.Prelude.{◌≡◌, [], ◌∷◌, ◌++◌, ◌≤◌, ◌<◌, List, ℕ, length, take, drop};
+ghost use Rattle.std.specs.Prelude.{◌≡◌, [], ◌∷◌, ◌++◌, ◌≤◌, ◌<◌, length, drop};
 ghost use Rattle.listing.specs.Draft.{cut, Adds};
 ghost use Rattle.listing.specs.Item.{ending_of, letter_of, line_of};
 ghost use Rattle.listing.specs.Text.{digit_of, hex2, hex3, lead, byte_number, address_number};
@@ -43,18 +43,30 @@ fn lead(v: u8) -> &'static [u8]
 
 // The bytes so far. A full line stays as it is. (Why no `arrayvec::ArrayVec`: that takes all of a slice or nothing, so that each `put`
 // would owe that there is room, or answer an error that never comes.)
-#[derive(Drop)]
+#[derive(Clone, Copy)]
 pub struct Draft {
     bytes: [u8; LINE_BYTES],
     length: usize,
 }
 
 impl Model for Draft {
+    ghost use Rattle.std.specs.Prelude.{◌≡◌, ◌≤◌, ◌-◌, List, ℕ, take, drop, replicate};
+    ghost use Rattle.std.proofs.Common.{arith, sym, take-append-drop, length-take-le};
+    ghost use Rattle.listing.specs.Draft.{filled_up, length_of};
+
     ghost Value = { List ℕ };
 
     ghost view = { λ d. take d.length d.bytes };
 
-    ghost invariant = { λ d. d.length ≤ 32 };
+    // Past the length all is 0, so that the bytes so far give the fields back.
+    ghost invariant = { λ d. (d.length ≤ 32) × (length_of d.bytes ≡ 32) × (drop d.length d.bytes ≡ replicate (32 - d.length) 0) };
+
+    ghost inverse = { λ xs. record { bytes = filled_up xs; length = length_of xs } };
+
+    ghost inverse_ok = { λ d h i.
+        let size : length_of (take d.length d.bytes) ≡ d.length = length-take-le d.length d.bytes (omega (arith, h.0, h.1)) in
+        let whole : filled_up (take d.length d.bytes) ≡ d.bytes = rw (size, sym h.2) (take-append-drop d.length d.bytes) in
+        record { bytes = whole i; length = size i } };
 }
 
 impl Draft {

@@ -1,8 +1,9 @@
 -- What a step sees is what its fetches find, address by address.
 -- Assumes nothing.
 use Prim.Native.Nat.{ℕ, ◌+◌, ◌-◌, ◌≤◌, ◌<◌}
-use mathlib.Core.Bool.{Bool, true, false}
+use mathlib.Core.Bool.{Bool, true, false, not, false≢true}
 use mathlib.Core.List.{List, ◌++◌}
+use mathlib.Core.Logic.{◌⊎◌, inl, inr}
 use mathlib.Core.Path.{◌≡◌, refl, sym, ap, ◌∙◌}
 use native.Mathlib.Omega.{arith}
 use lib.Dec.{leb, ltb}
@@ -16,10 +17,36 @@ use Rattle.isa.specs.Choice.{pick}
 use Rattle.isa.specs.Reading.{lacks, byte_at}
 use Rattle.machine.specs.Rom.{Byte, bytes_of, visible, fetched, answering, found_of}
 use Rattle.machine.specs.declared.rom.Memory.{Memory}
-use Rattle.machine.specs.declared.rom.Memory.TheVariants.{Internal}
+use Rattle.machine.specs.declared.rom.Memory.TheVariants.{Internal, External}
 
 module _ (inside outside : List ℕ) where
-  -- What a fetch answers: what `get` finds in the memory that must answer.
+  -- What a fetch answers, by who must answer and whether it has the byte.
+  pub from-inside :
+      (ea : Bool) (a : ℕ) → not ea ≡ true → a < length inside
+      → record { memory = Internal; lacking = false; value = byte_at inside a } ≡ fetched inside outside ea a
+  unfolding fetched pick
+  from-inside true a e l = absurd (false≢true e)
+  from-inside false a e l = rw (lt-leb _ _ l) (rw (lt-leb _ _ l))
+
+  must-outside : (ea : Bool) (a : ℕ) → (not ea ≡ false) ⊎ (length inside ≤ a) → answering inside ea a ≡ External
+  unfolding pick
+  must-outside true a w = refl
+  must-outside false a (inl e) = absurd (false≢true (sym e))
+  must-outside false a (inr l) = rw (le-leb _ _ l)
+
+  pub from-outside :
+      (ea : Bool) (a : ℕ) → (not ea ≡ false) ⊎ (length inside ≤ a) → a < length outside
+      → record { memory = External; lacking = false; value = byte_at outside a } ≡ fetched inside outside ea a
+  unfolding fetched
+  from-outside ea a w l = rw (must-outside ea a w, lt-leb _ _ l)
+
+  pub nowhere :
+      (ea : Bool) (a : ℕ) → (not ea ≡ false) ⊎ (length inside ≤ a) → length outside ≤ a
+      → record { memory = External; lacking = true; value = 0 } ≡ fetched inside outside ea a
+  unfolding fetched
+  nowhere ea a w l = rw (must-outside ea a w, le-leb _ _ l, get_or-eq_default outside 0 l)
+
+  -- The same by the code's answer: what `get` finds in the memory that must answer.
   pub found-by :
       {A : Type 0} (f : A → ℕ) (m : Memory) (ea : Bool) (a : ℕ) (r : Option A) → m ≡ answering inside ea a
       → is_some r ≡ ltb a (length (bytes_of m inside outside)) → unwrap_or (option_map f r) 0 ≡ byte_at (bytes_of m inside outside) a
@@ -76,8 +103,7 @@ module _ (inside outside : List ℕ) where
   -- With EA low a byte that the chip has is the one that is seen.
   module _ (ea : Bool) (a : ℕ) (low : ea ≡ false) (there : a < length inside) where
     is-inside : record { memory = Internal; lacking = false; value = byte_at inside a } ≡ fetched inside outside ea a
-    unfolding fetched pick
-    is-inside = rw (low, lt-leb _ _ there) (rw (lt-leb _ _ there))
+    is-inside = from-inside ea a (rw low) there
 
     pub inside-lacks : lacks (visible inside outside ea) a ≡ false
     inside-lacks = visible-lacks ea a ∙ ap (λ (x : Byte). x.lacking) (sym is-inside)

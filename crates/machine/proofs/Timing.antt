@@ -7,7 +7,7 @@ use native.Mathlib.Omega.{arith}
 use lib.Dec.{ltb}
 use borrow.Author.Tests.{lt-ltb, le-ltb}
 use Rattle.std.proofs.Math.Bool.{or-true, or-false}
-use Rattle.machine.specs.Counting.{counted}
+use Rattle.machine.specs.Counting.{advanced, counted}
 use Rattle.machine.specs.declared.Count.{Count}
 use Rattle.machine.specs.declared.Counting.{Counting}
 use Rattle.machine.specs.declared.Counting.TheVariants.{Stopped, Timer, Counter}
@@ -39,6 +39,13 @@ pub tf-stays : (mode : Counting) (x : Count) (t1 enabled : Bool) → x.tf ≡ tr
 tf-stays Stopped x t1 enabled h = rw h
 tf-stays Timer x t1 enabled h = rw h
 tf-stays Counter x t1 enabled h = rw h
+
+-- A cycle that counts nothing leaves a byte T, TF and the request.
+pub kept : (x : Count) (d : ℕ) (t1 enabled : Bool) → x.t < 256 → record { t = x.t; divider = d; tf = x.tf; request = x.request; last = t1 } ≡ advanced x d 0 t1 enabled
+kept x d t1 enabled h =
+    let t : (x.t + 0) % 256 ≡ x.t = omega arith in
+    let none : ltb 255 (x.t + 0) ≡ false = le-ltb 255 (x.t + 0) (omega arith) in
+    simp (t, none, or-false)
 
 -- ---- cycle i overflows exactly if 32 c + i is a multiple of 8,192
 hit-count : (c i x : ℕ) → 1 ≤ i → x ≡ (c + pred i / 32) % 256 → (32 * c + i) % 8192 ≡ 0 → x ≡ 255

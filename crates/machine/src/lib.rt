@@ -1,6 +1,6 @@
 #![tactic(auto)]
 // The machine state, what it may hold, program memory, pins, and the counting of one machine cycle.
-ghost use Rattle.std.specs.Prelude.{◌≡◌, is_ok, IfOk, ltb};
+ghost use Rattle.std.specs.Prelude.{◌≡◌, is_ok, IfOk, IfErr, ltb};
 ghost use Rattle.machine.specs.Counting.{counting_of};
 ghost use Rattle.machine.specs.Mode.{is_running, mode_allowed, mode_of};
 ghost use Rattle.machine.specs.State.{power_up, permitted, count_of, with_core, with_flags, with_count, with_counting, with_interrupts, with_ports, with_mode, running_at, with_a, with_pc, with_psw};
@@ -23,7 +23,9 @@ pub enum Counting {
 impl TryFrom<u8> for Counting {
     type Error = Refusal;
 
-    ghost try_from_gives = { λ n r. (is_ok r ≡ ltb n 3) × IfOk r (λ counting. counting ≡ counting_of n) };
+    ghost use Rattle.isa.specs.declared.Refusal.TheVariants.{StateOutside};
+
+    ghost try_from_gives = { λ n r. (is_ok r ≡ ltb n 3) × IfOk r (λ counting. counting ≡ counting_of n) × IfErr r (λ e. e ≡ StateOutside) };
 
     #[tactic(auto, unfolding(crate::specs::Counting::counting_of, isa::specs::Choice::pick))]
     fn try_from(n: u8) -> Result<Self, Refusal> {
@@ -48,7 +50,9 @@ pub enum Mode {
 impl TryFrom<u8> for Mode {
     type Error = Refusal;
 
-    ghost try_from_gives = { λ n r. (is_ok r ≡ ltb n 4) × IfOk r (λ mode. mode ≡ mode_of n) };
+    ghost use Rattle.isa.specs.declared.Refusal.TheVariants.{StateOutside};
+
+    ghost try_from_gives = { λ n r. (is_ok r ≡ ltb n 4) × IfOk r (λ mode. mode ≡ mode_of n) × IfErr r (λ e. e ≡ StateOutside) };
 
     #[tactic(auto, unfolding(crate::specs::Mode::mode_of, isa::specs::Choice::pick))]
     fn try_from(n: u8) -> Result<Self, Refusal> {

@@ -1,6 +1,6 @@
 // The bits of PSW: bit 7 C, 6 AC, 5 F0, 4 bank BS, 3 always 1, 2 to 0 SP. (A function for each, by the data sheet's name; what puts halves
 // of a PSW together, RETR, reset and MOV PSW,A, writes that out.)
-ghost use Rattle.std.specs.Prelude.{◌≡◌, ◌<◌, eqb};
+ghost use Rattle.std.specs.Prelude.{◌≡◌, ◌%◌, eqb};
 ghost use Rattle.isa.specs.Choice.{one_if};
 ghost use Rattle.machine.specs.Psw as defined;
 ghost use Rattle.machine.specs.Psw.{bit_ac, bit_c, bit_f0};
@@ -55,8 +55,7 @@ pub fn with_bs(psw: u8, bs: bool) -> u8
 
 // SP counts modulo 8.
 pub fn with_sp(psw: u8, sp: u8) -> u8
-    requires { sp < 8 }
-    ensures { result ≡ defined.with_sp psw sp }
+    ensures { result ≡ defined.with_sp psw (sp % 8) }
 {
-    psw / 8 * 8 + sp
+    psw / 8 * 8 + sp % 8
 }

@@ -1,6 +1,6 @@
 #![tactic(auto)]
 // What is read at an address, written again: the reader and the writer as one function of C, for the comparison with the second emulator.
-// (mcs48_read gives the same without calling them.)
+// (mcs48_read gives the same, and calls the reader for the length or the refusal alone.)
 ghost use Rattle.std.specs.Prelude.{◌≡◌};
 ghost use Rattle.mcs48_c.specs.Calls.{read_from};
 ghost use Rattle.mcs48_c.specs.Packed.{packed_answer, packed_read};
