@@ -9,7 +9,7 @@ use Rattle.runs.proofs.run_on.Goals as goal
 
 pub loop-left-preserved : goal.loop-left-preserved
 loop-left-preserved c =
-    rw (take_rest c.loop-left.left.now c.in-Ok.moved.used)
+    rw (take_rest c.loop-left.left.now _)
     (goes-on _ c.loop-left.invariant c.in-len2-up.len_at_least c.in-Ok.ensures.answer c.in-Ok.ensures.memory refl c.do_step.auto.ram)
 
 pub returns-in-Err : goal.returns-in-Err
