@@ -1,9 +1,10 @@
 -- Two answers of the code that tell the same are the same, for each definition of what an answer tells.
 -- Assumes nothing.
+use Prim.Native.Nat.{ℕ}
 use mathlib.Core.Path.{◌≡◌, refl, sym, ap, ◌∙◌}
 use Rattle.std.specs.Prelude.{Option, Some, None, Result, Ok, Err}
 use Rattle.isa.specs.Choice.{pick}
-use Rattle.isa.specs.Numbers.{number_given}
+use Rattle.isa.specs.Numbers.{number_of, number_given}
 use Rattle.isa.specs.declared.Refusal.{Refusal}
 use Rattle.isa.proofs.Once.{one-number}
 use Rattle.machine.specs.declared.State.{State}
@@ -20,6 +21,15 @@ use Rattle.chip.specs.declared.Spent.{Spent}
 use Rattle.chip.specs.declared.Spent.TheVariants.{Waited, Cycles}
 use Rattle.chip.proofs.Telling.{some-number}
 
+-- What is told of an answer tells the answer, if a refusal is told by its number, what is done by 0, and what is done is told apart.
+answer-once :
+    {A B : Type 0} (tell : Result A Refusal → B) (number : B → ℕ) → ((a : A) → number (tell (Ok a)) ≡ 0) → ((r : Refusal) → number (tell (Err r)) ≡ number_of r)
+    → ((a a' : A) → tell (Ok a) ≡ tell (Ok a') → a ≡ a') → (r r' : Result A Refusal) → tell r ≡ tell r' → r ≡ r'
+answer-once tell number done refused apart (Ok a) (Ok a') h = ap Ok (apart a a' h)
+answer-once tell number done refused apart (Ok a) (Err x) h = absurd (some-number x (sym (refused x) ∙ sym (ap number h) ∙ done a))
+answer-once tell number done refused apart (Err x) (Ok a) h = absurd (some-number x (sym (refused x) ∙ ap number h ∙ done a))
+answer-once tell number done refused apart (Err x) (Err y) h = ap Err (one-number x y (sym (refused x) ∙ ap number h ∙ refused y))
+
 -- What the code answers is told by its number and values.
 effect-back : EffectAnswer → code_effect.Effect
 effect-back e = record { fresh = e.fresh; state = e.state }
@@ -29,10 +39,7 @@ unfolding effect-back
 done-as-once e e' h = ap (λ (x : EffectAnswer). effect-back x) h
 
 pub effect-as-once : (s : State) (r r' : Result code_effect.Effect Refusal) → effect_as s r ≡ effect_as s r' → r ≡ r'
-effect-as-once s (Ok e) (Ok e') h = ap Ok (done-as-once e e' h)
-effect-as-once s (Ok e) (Err x) h = absurd (some-number x (sym (ap (λ (a : EffectAnswer). a.number) h)))
-effect-as-once s (Err x) (Ok e) h = absurd (some-number x (ap (λ (a : EffectAnswer). a.number) h))
-effect-as-once s (Err x) (Err y) h = ap Err (one-number x y (ap (λ (a : EffectAnswer). a.number) h))
+effect-as-once s = answer-once (effect_as s) (λ (a : EffectAnswer). a.number) (λ e. refl) (λ r. refl) done-as-once
 
 told-back : CourseAnswer → code_course.Course
 told-back a = record { spent = pick a.waited Waited (Cycles a.cycles a.fresh); state = a.state }
@@ -51,20 +58,14 @@ told-number Waited s = refl
 told-number (Cycles n fresh) s = refl
 
 pub told-by-once : (s : State) (r r' : Result code_course.Course Refusal) → told_by s r ≡ told_by s r' → r ≡ r'
-told-by-once s (Ok c) (Ok c') h = ap Ok (told-as-once c c' h)
-told-by-once s (Ok c) (Err x) h = absurd (some-number x (sym (ap (λ (a : CourseAnswer). a.number) h) ∙ told-number c.spent c.state))
-told-by-once s (Err x) (Ok c) h = absurd (some-number x (ap (λ (a : CourseAnswer). a.number) h ∙ told-number c.spent c.state))
-told-by-once s (Err x) (Err y) h = ap Err (one-number x y (ap (λ (a : CourseAnswer). a.number) h))
+told-by-once s = answer-once (told_by s) (λ (a : CourseAnswer). a.number) (λ c. told-number c.spent c.state) (λ r. refl) told-as-once
 
 moved-back : Moved → code_moved.Moved
 moved-back m = record { state = m.state; cycles = m.cycles; used = m.used }
 
 pub moved-by-once : (s : State) (r r' : Result code_moved.Moved Refusal) → moved_by s r ≡ moved_by s r' → r ≡ r'
 unfolding moved-back
-moved-by-once s (Ok m) (Ok m') h = ap (λ (x : Moved). Ok (moved-back x)) h
-moved-by-once s (Ok m) (Err x) h = absurd (some-number x (sym (ap (λ (m : Moved). m.number) h)))
-moved-by-once s (Err x) (Ok m) h = absurd (some-number x (ap (λ (m : Moved). m.number) h))
-moved-by-once s (Err x) (Err y) h = ap Err (one-number x y (ap (λ (m : Moved). m.number) h))
+moved-by-once s = answer-once (moved_by s) (λ (m : Moved). m.number) (λ m. refl) (λ r. refl) (λ m m' h. ap (λ (x : Moved). moved-back x) h)
 
 outcome-back : Outcome → code_outcome.Outcome
 outcome-back o =
@@ -75,17 +76,11 @@ outcome-back o =
 
 pub outcome-by-once : (s : State) (r r' : Result code_outcome.Outcome Refusal) → outcome_by s r ≡ outcome_by s r' → r ≡ r'
 unfolding outcome-back
-outcome-by-once s (Ok o) (Ok o') e = ap (λ (o : Outcome). Ok (outcome-back o)) e
-outcome-by-once s (Ok o) (Err x) e = absurd (some-number x (sym (ap (λ (o : Outcome). o.number) e)))
-outcome-by-once s (Err x) (Ok o) e = absurd (some-number x (ap (λ (o : Outcome). o.number) e))
-outcome-by-once s (Err x) (Err y) e = ap Err (one-number x y (ap (λ (o : Outcome). o.number) e))
+outcome-by-once s = answer-once (outcome_by s) (λ (o : Outcome). o.number) (λ o. refl) (λ r. refl) (λ o o' h. ap (λ (x : Outcome). outcome-back x) h)
 
 -- `admit` answers nothing beside.
 pub number-given-once : (r r' : Result Unit Refusal) → number_given r ≡ number_given r' → r ≡ r'
-number-given-once (Ok _) (Ok _) e = refl
-number-given-once (Ok _) (Err y) e = absurd (some-number y (sym e))
-number-given-once (Err x) (Ok _) e = absurd (some-number x e)
-number-given-once (Err x) (Err y) e = ap Err (one-number x y e)
+number-given-once = answer-once number_given (λ (n : ℕ). n) (λ a. refl) (λ r. refl) (λ a a' h. refl)
 
 number-ended-once : (x y : Option Refusal) → number_ended x ≡ number_ended y → x ≡ y
 number-ended-once None None e = refl
